@@ -1,0 +1,10 @@
+pub mod Ring
+pub mod Sums
+pub mod Poly
+pub mod Frame
+pub mod Hollow
+pub mod Collect
+pub mod Rows
+pub mod Shares
+pub mod Levels
+pub mod Bytes

@@ -1,0 +1,10 @@
+pub mod Xor
+pub mod Table
+pub mod Shifted
+pub mod Powers
+pub mod Mul
+pub mod Pow
+pub mod Quotient
+pub mod Lookup
+pub mod Worked
+pub mod Laws

@@ -1,0 +1,55 @@
+//! The slips program on whole inputs: good files with slips, damaged files, damaged
+//! slips, and what is neither.
+
+use crate::calls::program::SLIPS;
+use crate::case::Input;
+use crate::random::Random;
+use crate::shares::{code_of, count_of, damage_file, damage_slip, good_file, good_slip, total_of};
+
+const CASES: u64 = 20_000;
+
+/// Slips in order; a faulty one now and then, which may use up no number.
+fn slips(random: &mut Random, file: &[u8]) -> Vec<u8> {
+    let (total, message) = (total_of(file), code_of(file).message());
+    let mut order = count_of(file).wrapping_add(1);
+    let mut stream = Vec::new();
+    for _ in 0..random.pick(&[0, 1, 2, 3, 5, 30]) {
+        let mut slip = good_slip(random, order, total, message);
+        if random.once_in(5) {
+            damage_slip(random, &mut slip, total, message);
+            order = order.wrapping_sub(random.below(2) as u32);
+        }
+        order = order.wrapping_add(1);
+        stream.extend(slip);
+    }
+    stream
+}
+
+fn whole_input(random: &mut Random) -> Vec<u8> {
+    let mut input = good_file(random);
+    let mut stream = slips(random, &input);
+    if random.once_in(3) {
+        damage_file(random, &mut input);
+    }
+    match random.below(12) {
+        0 => stream.truncate(random.below(stream.len() + 1)),
+        1 => stream.extend(random.bytes(7)),
+        2 => stream.extend_from_slice(b"E\0"),
+        _ => (),
+    }
+    input.extend(stream);
+    if random.once_in(20) {
+        input.truncate(random.below(input.len() + 1));
+    }
+    input
+}
+
+pub fn run(random: &mut Random, scale: u64) -> u64 {
+    let cases = CASES * scale / 100;
+    for case in 0..cases {
+        let input = if case == 0 { Vec::new() } else { whole_input(random) };
+        let pieces = Input::Number(random.next());
+        SLIPS.check(vec![Input::Bytes(input), pieces, Input::Bytes(Vec::new())]);
+    }
+    cases
+}
