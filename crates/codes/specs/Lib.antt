@@ -1,0 +1,14 @@
+pub mod Told
+pub mod Reasons
+pub mod First
+pub mod Judge
+pub mod Rules
+pub mod Sizes
+pub mod Body
+pub mod Places
+pub mod Matrix
+pub mod General
+pub mod Share
+pub mod Rebuild
+pub mod Collect
+pub mod Cases
