@@ -1,29 +1,29 @@
--- Our judge meets demand 1, and a judge that refuses every code does not.
---   demand1-judge     what our judge tells of a code is what demand 1 asks
---   refuses-all       whoever refuses every code is no judge
+-- The judge's reasons in words: its tests hold exactly when the words do, and refusal 4 names what it should.
+--   judge-matches     the judge's reasons are the words for them
+--   judge-names       what refusal 4 names
 -- Assumes nothing.
 use mathlib.Core.Path.{_≡_, _∙_, refl, sym, ap}
-use mathlib.Core.Logic.{_⊎_, inl, inr, ⊎-elim, _≢_}
-use mathlib.Core.Bool.{Bool, true, false, not}
-use mathlib.Core.List.{List, [], _∷_}
+use mathlib.Core.Logic.{inl, inr, ⊎-elim, _≢_}
+use mathlib.Core.Bool.{false, not}
+use mathlib.Core.List.{List, _∷_, _++_}
 use Prim.Native.Nat.{ℕ, _+_, _-_, _<_, _≤_}
 use native.Mathlib.Omega.{arith}
 use lib.Dec.{ltb}
 use lib.ListN.{getD}
 use borrow.Author.Tests.{ltb-true, ltb-false, not-true, not-false}
-use Rattle.codes.specs.Told.{Told, Reason, _when_, refusal, tell, answered}
-use Rattle.codes.specs.Reasons.{Raised}
-use Rattle.codes.specs.First.{first}
+use Rattle.codes.specs.Told.{Reason, _when_, refusal}
 use Rattle.codes.specs.Sizes.{none}
-use Rattle.codes.specs.Judge.{known, sized, mark, marks, pairFirst, pairSecond, unusedAt, pointed, pairOf, pairIn, judgeReasons, judged}
+use Rattle.codes.specs.Judge.{known, sized, mark, marks, pairFirst, pairSecond, unusedAt, pointed, pairOf, pairIn, judgeReasons}
 use Rattle.codes.specs.Rules.{Known, Sized}
 use Rattle.codes.specs.declared.Code.{Code}
-use Rattle.demands.specs.Judge.{Offends, Spoils, Faulty, FirstPair, FirstSpoilt, Judges}
+use Rattle.demands.specs.Words.{Word}
+use Rattle.demands.specs.Judge.{Offends, Spoils, Faulty, FirstPair, FirstSpoilt, Names, judgeWords}
 use Rattle.codes.proofs.Bools.{apart, by-test, fails}
-use Rattle.codes.proofs.Told.{Exact, refusal-exact, raised, clear, answered-number, answered-pair, answered-bare, answered-four}
-use Rattle.codes.proofs.Tests.{known-when, known-only, sized-when, sized-only, unsized}
+use Rattle.codes.proofs.Told.{refusal-skip, refusal-stop}
+use Rattle.codes.proofs.Tests.{known-when, known-only, sized-when, sized-only}
 use Rattle.codes.proofs.Pairs.{Pair, Spoilt, mark-zero, marks-at, pair-smallest, pair-nearest, pair-named, unused-smallest, unused-named, pointed-only, pointed-when}
-use Rattle.codes.proofs.Rules.{judge-numbered}
+use Rattle.demands.proofs.Says.{Says, not-says}
+use Rattle.demands.proofs.Words.{Matches, step}
 
 -- the points of a code of known kind and right size
 
@@ -91,8 +91,7 @@ module _ (c : Code) (k : Known (c .kind)) (s : Sized c) where
       }
 
   -- what refusal 4 names
-  names : pointed (marks c) (c .points) (c .n) ≡ false → (i j : ℕ) → i ≡ pairIn c .0 → j ≡ pairIn c .1
-      → FirstPair c i j ⊎ (FirstSpoilt c i × (j ≡ i))
+  names : pointed (marks c) (c .points) (c .n) ≡ false → (i j : ℕ) → i ≡ pairIn c .0 → j ≡ pairIn c .1 → Names c i j
   unfolding pairOf
   names e i j p q =
       by-test (ltb i₁ (c .n))
@@ -111,78 +110,35 @@ module _ (c : Code) (k : Known (c .kind)) (s : Sized c) where
   faulty-only e =
       ⊎-elim (λ f. inl (_, _, f .offends)) (λ f. inr (_, f .0 .spoils)) (names e _ _ refl refl)
 
--- the judge's reasons, one by one
-
-module _ (a b d : Bool) where
-  abbrev reasons : List Reason
-  reasons = (2 when a) ∷ (3 when b) ∷ (4 when d) ∷ []
-
-  raised-2 : Raised reasons 2 → a ≡ true
-  raised-2 h =
-      ⊎-elim (λ x. x .0)
-      (λ x. ⊎-elim (λ y. absurd (omega (arith, y .1))) (λ y. ⊎-elim (λ z. absurd (omega (arith, z .1))) (λ z. absurd (z .1)) (y .1)) (x .1)) h
-
-  raised-3 : Raised reasons 3 → (a ≡ false) × (b ≡ true)
-  raised-3 h =
-      ⊎-elim (λ x. absurd (omega (arith, x .1)))
-      (λ x. ⊎-elim (λ y. (x .0, y .0)) (λ y. ⊎-elim (λ z. absurd (omega (arith, z .1))) (λ z. absurd (z .1)) (y .1)) (x .1)) h
-
-  raised-4 : Raised reasons 4 → (a ≡ false) × (b ≡ false) × (d ≡ true)
-  raised-4 h =
-      ⊎-elim (λ x. absurd (omega (arith, x .1)))
-      (λ x. ⊎-elim (λ y. absurd (omega (arith, y .1))) (λ y. ⊎-elim (λ z. (x .0, y .0, z .0)) (λ z. absurd (z .1)) (y .1)) (x .1)) h
-
-  one-of : (n : ℕ) → n ≡ refusal reasons → (n ≡ 0) ⊎ ((n ≡ 2) ⊎ ((n ≡ 3) ⊎ (n ≡ 4)))
-  one-of n e =
-      by-test a (λ x. inr (inl (e ∙ raised reasons 2 (inl (x, refl)))))
-      (λ x. by-test b (λ y. inr (inr (inl (e ∙ raised reasons 3 (inr (x, inl (y, refl)))))))
-      (λ y. by-test d (λ z. inr (inr (inr (e ∙ raised reasons 4 (inr (x, inr (y, inl (z, refl))))))))
-      (λ z. inl (e ∙ clear reasons (x, (y, (z, tt)))))))
+-- the judge's tests, and the words for them
 
 module _ (c : Code) where
-  pub demand1-judge : Judges c (judged c)
-  unfolding judged judgeReasons
-  demand1-judge =
+  kind-says : Says (not (known (c .kind))) (Known (c .kind) → ⊥)
+  kind-says = not-says (known (c .kind)) (known-only (c .kind), known-when (c .kind))
+
+  size-says : Says (not (sized c)) (Sized c → ⊥)
+  size-says = not-says (sized c) (sized-only c, sized-when c)
+
+  points-says : not (known (c .kind)) ≡ false → not (sized c) ≡ false → Says (not (pointed (marks c) (c .points) (c .n))) (Faulty c)
+  points-says a b =
+      let k = known-only (c .kind) (not-false _ a) in
+      let s = sized-only c (not-false _ b) in
+      (λ e. faulty-only c k s (not-true _ e), λ f. ap not (faulty-when c k s f))
+
+  -- the judge's reasons are those of judgeWords, whatever comes after them
+  pub judge-matches : (rs : List Reason) (ws : List Word) → Matches rs ws → Matches (judgeReasons c ++ rs) (judgeWords c ++ ws)
+  unfolding judgeReasons
+  judge-matches rs ws m = step refl kind-says (λ a. step refl size-says (λ b. step refl (points-says a b) (λ _. m)))
+
+  pub judge-names : (more : List Reason) → refusal more ≢ 4 → refusal (judgeReasons c ++ more) ≡ 4 → (i j : ℕ) → i ≡ pairIn c .0 → j ≡ pairIn c .1 → Names c i j
+  unfolding judgeReasons
+  judge-names more z e =
       let a = not (known (c .kind)) in
       let b = not (sized c) in
-      let p = pointed (marks c) (c .points) (c .n) in
-      let rs = judgeReasons c in
-      let ex : Exact rs = refusal-exact rs (judge-numbered c) in
-      let n : judged c .number ≡ refusal rs = answered-number rs (pairIn c) 0 in
-      let four : (judged c .number ≡ 4 → (a ≡ false) × (b ≡ false) × (not p ≡ true)) = λ e. raised-4 a b (not p) (ex .given 4 (λ z. omega arith) .0 (sym n ∙ e)) in
-      let k : (a ≡ false → Known (c .kind)) = λ e. known-only (c .kind) (not-false _ e) in
-      let s : (b ≡ false → Sized c) = λ e. sized-only c (not-false _ e) in
-      record {
-        kind = (
-          λ e h. apart _ (known-when (c .kind) h) (not-true _ (raised-2 a b (not p) (ex .given 2 (λ z. omega arith) .0 (sym n ∙ e)))),
-          λ h. n ∙ ex .given 2 (λ z. omega arith) .1 (inl (ap not (fails _ (λ e. h (known-only (c .kind) e))), refl)),
-        );
-        size = (
-          λ e. let r = raised-3 a b (not p) (ex .given 3 (λ z. omega arith) .0 (sym n ∙ e)) in (k (r .0), λ h. apart _ (sized-when c h) (not-true _ (r .1))),
-          λ h. n ∙ ex .given 3 (λ z. omega arith) .1 (inr (ap not (known-when (c .kind) (h .0)), inl (ap not (unsized c (h .1)), refl))),
-        );
-        points = (
-          λ e. let r = four e in (k (r .0), s (r .1), faulty-only c (k (r .0)) (s (r .1)) (not-true _ (r .2))),
-          λ h. n ∙ ex .given 4 (λ z. omega arith) .1 (inr (ap not (known-when (c .kind) (h .0)), inr (ap not (sized-when c (h .1)), inl (ap not (faulty-when c (h .0) (h .1) (h .2)), refl)))),
-        );
-        good = (
-          λ e. let r = ex .none .0 (sym n ∙ e) in (k (r .0), s (r .1 .0), λ f. apart _ (not-false _ (r .1 .1 .0)) (faulty-when c (k (r .0)) (s (r .1 .0)) f)),
-          λ h. n ∙ ex .none .1 (ap not (known-when (c .kind) (h .0)), (ap not (sized-when c (h .1)), (by-test p (λ t. ap not t) (λ t. absurd (h .2 (faulty-only c (h .0) (h .1) t))), tt))),
-        );
-        only = one-of a b (not p) (judged c .number) n;
-        named = λ e. let r = four e in let f = answered-four rs (pairIn c) 0 (sym n ∙ e) in names c (k (r .0)) (s (r .1)) (not-true _ (r .2)) _ _ (f .0) (f .1);
-        nothing = λ z. answered-pair rs (pairIn c) 0 (λ e. z (n ∙ e));
-        empty = answered-bare rs (pairIn c);
-      }
-
--- a judge that refuses every code: it refuses document 01's smallest code
-
-smallest : Code
-smallest = record { kind = 1; n = 2; k = 1; d = 1; points = record { 0 = 0 } ∷ record { 0 = 1 } ∷ [] }
-
-taken : judged smallest .number ≡ 0
-unfolding smallest judged judgeReasons answered tell refusal known sized pointed marks mark pairFirst pairSecond unusedAt first
-taken = refl
-
-pub refuses-all : (judge : Code → Told) → ((c : Code) → judge c .number ≢ 0) → ((c : Code) → Judges c (judge c)) → ⊥
-refuses-all judge r h = r smallest (h smallest .good .1 (demand1-judge smallest .good .0 taken))
+      let d = not (pointed (marks c) (c .points) (c .n)) in
+      let r₄ : List Reason = (4 when d) ∷ more in
+      let r₃ : List Reason = (3 when b) ∷ r₄ in
+      by-test a (λ x. absurd (omega (arith, sym (refusal-stop 2 r₃ x) ∙ e)))
+      (λ x. by-test b (λ y. absurd (omega (arith, sym (refusal-skip 2 r₃ x ∙ refusal-stop 3 r₄ y) ∙ e)))
+      (λ y. by-test d (λ w. names c (known-only (c .kind) (not-false _ x)) (sized-only c (not-false _ y)) (not-true _ w))
+      (λ w. absurd (z (sym (refusal-skip 2 r₃ x ∙ refusal-skip 3 r₄ y ∙ refusal-skip 4 more w) ∙ e)))))

@@ -1,1 +1,9 @@
+pub mod Says
+pub mod Inputs
+pub mod Words
 pub mod Judge
+pub mod Answer
+pub mod Stripes
+pub mod Fixed
+pub mod Only
+pub mod Honest

@@ -1,21 +1,23 @@
--- Demand 1 of the judge, in document 01's words. Places are counted from 1. That our judge meets it is shown in proofs/Judge.antt.
+-- Why a code is refused, in document 01's words, and what refusal 4 names. Places are counted from 1.
 --   pointAt c i          the point at the place i
 --   Offends c i j        the nodes i and j, i before j, break the point rule
 --   Spoils c i           the place i is unused, and its point is not zero
 --   Faulty c             a pair offends, or an unused point is not zero
 --   FirstPair c i j      of the offending pairs (i, j) has the smallest first node, and then the smallest second
 --   FirstSpoilt c i      no pair offends, and i is the first unused place whose point is not zero
---   Judges c t           what is told of the code c, t, is what demand 1 asks of the judge
+--   Names c i j          refusal 4 names i and j: the first pair, or the first unused place twice
+--   judgeWords c         the reasons for refusing the code c, in order
 -- Assumes nothing.
 use mathlib.Core.Path.{_≡_}
-use mathlib.Core.Logic.{_⊎_, _↔_, _≢_}
+use mathlib.Core.Logic.{_⊎_, _≢_}
+use mathlib.Core.List.{List, [], _∷_}
 use Prim.Native.Nat.{ℕ, _-_, _<_, _≤_}
 use lib.ListN.{getD}
-use Rattle.codes.specs.Told.{Told}
 use Rattle.codes.specs.Sizes.{none}
 use Rattle.codes.specs.Judge.{mark}
 use Rattle.codes.specs.Rules.{Known, Sized}
 use Rattle.codes.specs.declared.Code.{Code}
+use Rattle.demands.specs.Words.{Word, _because_}
 
 abbrev pub pointAt : Code → ℕ → ℕ
 pointAt c i = getD (c .points) (i - 1) none .0
@@ -44,14 +46,12 @@ pub record FirstSpoilt (c : Code) (i : ℕ) : Type 0 where
   pub spoils : Spoils c i
   pub smallest : (a : ℕ) → Spoils c a → i ≤ a
 
-pub record Judges (c : Code) (t : Told) : Type 0 where
-  pub kind : (t .number ≡ 2) ↔ (Known (c .kind) → ⊥)
-  pub size : (t .number ≡ 3) ↔ (Known (c .kind) × (Sized c → ⊥))
-  pub points : (t .number ≡ 4) ↔ (Known (c .kind) × Sized c × Faulty c)
-  pub good : (t .number ≡ 0) ↔ (Known (c .kind) × Sized c × (Faulty c → ⊥))
-  -- no other refusal is given
-  pub only : (t .number ≡ 0) ⊎ ((t .number ≡ 2) ⊎ ((t .number ≡ 3) ⊎ (t .number ≡ 4)))
-  -- refusal 4 names the first pair, or the first unused place twice; all else names nothing
-  pub named : t .number ≡ 4 → FirstPair c (t .first) (t .second) ⊎ (FirstSpoilt c (t .first) × (t .second ≡ t .first))
-  pub nothing : t .number ≢ 4 → (t .first ≡ 0) × (t .second ≡ 0)
-  pub empty : t .value ≡ 0
+abbrev pub Names : Code → ℕ → ℕ → Type 0
+Names c i j = FirstPair c i j ⊎ (FirstSpoilt c i × (j ≡ i))
+
+abbrev pub judgeWords : Code → List Word
+judgeWords c =
+    (2 because (Known (c .kind) → ⊥))
+    ∷ (3 because (Sized c → ⊥))
+    ∷ (4 because Faulty c)
+    ∷ []

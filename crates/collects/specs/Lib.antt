@@ -1,0 +1,3 @@
+pub mod Squares
+pub mod Gather
+pub mod Collect

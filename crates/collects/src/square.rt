@@ -1,0 +1,93 @@
+// Squares of 31 by 31 bytes: rows, columns and their products by the lent table, which is made once for a stripe.
+use crate::products::product;
+use field::Symbol;
+ghost use mathlib.Core.Path.{_≡_};
+ghost use Prim.Native.Nat.{_+_, _≤_, _<_};
+ghost use Rattle.field.specs.Tables.{tables};
+ghost use Rattle.algebra.specs.Symbol.{symbol, 𝟘};
+ghost use Rattle.algebra.specs.Sums.{Same, pick, dot, flip};
+ghost use Rattle.algebra.specs.Bytes.{at};
+ghost use Rattle.collects.specs.Squares.{cells, Holds, Copied};
+
+// The sum of the products of n entries.
+pub fn dot(u: [u8; 31], v: [u8; 31], n: usize, t: &[u8; 768]) -> u8
+    requires { ⌜ (n ≤ 31) × (now t ≡ tables) ⌝ }
+    ensures { λ r. ⌜ symbol r ≡ dot n (at u) (at v) ⌝ }
+{
+    let mut sum: u8 = 0;
+    for i in 0..n {
+        sum ^= product(Symbol::of(u[i]), Symbol::of(v[i]), t).0;
+    }
+    sum
+}
+
+pub fn column(g: &[[u8; 31]; 31], j: usize) -> [u8; 31]
+    requires { ⌜ j < 31 ⌝ }
+    ensures { λ r. ⌜ Same 31 (at r) (λ i. cells (now (g .entry)) i j) ⌝ }
+{
+    let mut c = [0u8; 31];
+    for i in 0..31 {
+        c[i] = g[i][j];
+    }
+    c
+}
+
+// Rows and columns exchanged.
+pub fn flip(g: &[[u8; 31]; 31]) -> [[u8; 31]; 31]
+    ensures { λ r. ⌜ Holds 31 31 r (flip (cells (now (g .entry)))) ⌝ }
+{
+    let mut f = [[0u8; 31]; 31];
+    for j in 0..31 {
+        f[j] = column(g, j);
+    }
+    f
+}
+
+// The first m rows of f, each times the column y of n entries.
+pub fn times(f: &[[u8; 31]; 31], y: [u8; 31], m: usize, n: usize, t: &[u8; 768]) -> [u8; 31]
+    requires { ⌜ (m ≤ 31) × (n ≤ 31) × (now t ≡ tables) ⌝ }
+    ensures { λ r. ⌜ Same m (at r) (λ i. dot n (at y) (cells (now (f .entry)) i)) ⌝ }
+{
+    let mut v = [0u8; 31];
+    for i in 0..m {
+        v[i] = dot(y, f[i], n, t);
+    }
+    v
+}
+
+// The same for each row of y from one row to another, as rows of a new square.
+pub fn times_each(
+    f: &[[u8; 31]; 31],
+    y: &[[u8; 31]; 31],
+    m: usize,
+    n: usize,
+    from: usize,
+    to: usize,
+    t: &[u8; 768],
+) -> [[u8; 31]; 31]
+    requires { ⌜ (m ≤ 31) × (n ≤ 31) × (from ≤ to) × (to ≤ 31) × (now t ≡ tables) ⌝ }
+    ensures { λ r. ⌜ Holds to m r (λ j i. pick j from 𝟘 (dot n (cells (now (y .entry)) j) (cells (now (f .entry)) i))) ⌝ }
+{
+    let mut g = [[0u8; 31]; 31];
+    for j in from..to {
+        g[j] = times(f, y[j], m, n, t);
+    }
+    g
+}
+
+// m rows of h, from row b on, in place of those of g from row a on.
+pub fn copy_rows(
+    mut g: [[u8; 31]; 31],
+    a: usize,
+    h: &[[u8; 31]; 31],
+    b: usize,
+    m: usize,
+) -> [[u8; 31]; 31]
+    requires { ⌜ (a + m ≤ 31) × (b + m ≤ 31) ⌝ }
+    ensures { λ r. ⌜ Copied g a (now (h .entry)) b m r ⌝ }
+{
+    for i in 0..m {
+        g[a + i] = h[b + i];
+    }
+    g
+}

@@ -1,0 +1,4 @@
+pub mod Lists
+pub mod Arrays
+pub mod Encode
+pub mod Help
