@@ -1,11 +1,11 @@
-/* Corkpaddle: share files of pass books, by product-matrix MBR and MSR codes.
+/* Corkpaddle: stripes of pass books, by product-matrix MBR and MSR codes. Share files follow.
  *
  * Every function takes any input and ends with an answer. It refuses exactly for the reasons of document 01, and a refusal
  * leaves every lent run as it was. What the library cannot see is the caller's part: a pointer is valid for its length, and
  * a run lent to be written overlaps no other run of the call. A null pointer with length 0 is an empty run.
  *
  * A code is the 36 bytes of a C record's body: kind, n, k, d and 32 points, the unused ones zero. A code run of another
- * length is refusal 5, or 3 where the call's stripe total is outside its rule.
+ * length is refusal 5.
  */
 #ifndef CORKPADDLE_H
 #define CORKPADDLE_H
@@ -19,16 +19,10 @@ extern "C" {
 
 /* number: 0 for done, else the refusal: 1 RECORD, 2 KIND, 3 SIZE, 4 POINTS, 5 LENGTH, 6 NODE, 7 REPEAT, 8 MIXED, 9 ORDER,
  * 10 PLACE. first and second: the pair of places of refusal 4, else 0. count: the slip count that goes with a done answer
- * of a rebuild, a collection, a judged file or a taken slip, else 0. */
+ * of a rebuild or a collection, else 0. */
 typedef struct {
     uint32_t number, first, second, count;
 } corkpaddle_answer;
-
-/* number: 0, and the body of the record is from start to end, with the next record at next; or 1, start and end 0, and next
- * the place that was asked. */
-typedef struct {
-    uint64_t number, start, end, next;
-} corkpaddle_record;
 
 /* Whether the code is accepted: 2, 3 or 4 with its pair. */
 corkpaddle_answer corkpaddle_judge(const uint8_t *code, size_t code_len);
@@ -50,32 +44,6 @@ corkpaddle_answer corkpaddle_rebuild(const uint8_t *code, size_t code_len, uint8
 corkpaddle_answer corkpaddle_collect(const uint8_t *code, size_t code_len, const uint8_t *nodes, size_t nodes_len,
                                      const uint32_t *counts, size_t counts_len, const uint8_t *shares,
                                      size_t shares_len, uint8_t *output, size_t output_len);
-
-/* One D record, 34 bytes, from a batch of d H records for the asked node. */
-corkpaddle_answer corkpaddle_rebuild_batch(const uint8_t *code, size_t code_len, uint8_t asked, const uint8_t *batch,
-                                           size_t batch_len, uint8_t *output, size_t output_len);
-
-/* A whole share file, 45 + 34 t bytes, from t batches end to end for the asked node. */
-corkpaddle_answer corkpaddle_rebuild_file(const uint8_t *code, size_t code_len, uint8_t asked, uint32_t stripes,
-                                          const uint8_t *batches, size_t batches_len, uint8_t *output,
-                                          size_t output_len);
-
-/* A fresh share file, 45 + 34 t bytes, of a book of t times B bytes. */
-corkpaddle_answer corkpaddle_cut(const uint8_t *code, size_t code_len, uint8_t node, uint32_t stripes,
-                                 const uint8_t *book, size_t book_len, uint8_t *output, size_t output_len);
-
-/* Whether a share file is accepted; its slip count. */
-corkpaddle_answer corkpaddle_judge_file(const uint8_t *file, size_t file_len);
-
-/* Takes a slip, a P record of 10 bytes, in place: the count goes up by one and the change is added; the new count. */
-corkpaddle_answer corkpaddle_take_slip(uint8_t *file, size_t file_len, const uint8_t *slip, size_t slip_len);
-
-/* A station's answers for a failed node: one H record for each stripe, t times 10 bytes. */
-corkpaddle_answer corkpaddle_answer_for(const uint8_t *file, size_t file_len, uint8_t failed, uint8_t *output,
-                                        size_t output_len);
-
-/* The record of a file at a place. */
-corkpaddle_record corkpaddle_read(const uint8_t *file, size_t file_len, uint64_t place);
 
 #ifdef __cplusplus
 }
