@@ -1,5 +1,6 @@
 -- An operation whose tests are the words for them meets demand 1. The judge does, and a judge that refuses every code does not.
---   answers           what an operation tells, by its own reasons after the judge's
+--   tells             what an operation tells, by its reasons
+--   answers           the same of an operation on a code, by its own reasons after the judge's
 --   leaves            what it leaves in a lent run
 --   demand1-judge     demand 1 of our judge
 --   refuses-all       whoever refuses every code is no judge
@@ -18,8 +19,8 @@ use Rattle.codes.specs.Judge.{known, sized, mark, marks, pairFirst, pairSecond,
 use Rattle.codes.specs.declared.Code.{Code}
 use Rattle.codes.proofs.Told.{answered-number, answered-pair, answered-value, answered-four}
 use Rattle.demands.specs.Words.{Word, None, Decided}
-use Rattle.demands.specs.Judge.{judgeWords}
-use Rattle.demands.specs.Answer.{Answers, Judges, Leaves}
+use Rattle.demands.specs.Judge.{Names, judgeWords}
+use Rattle.demands.specs.Answer.{Tells, Answers, Judges, Leaves}
 use Rattle.demands.proofs.Words.{Matches, end, decided, numbersOf, numbers, unpaired, no-four}
 use Rattle.demands.proofs.Judge.{judge-matches, judge-names}
 
@@ -28,24 +29,26 @@ unfolding answered tell
 answered-done rs p v e = ap (λ (n : ℕ). tell n p v .value) e
 
 module _ (c : Code) (rs : List Reason) (ws : List Word) (Val : ℕ → Type 0) (v : ℕ) where
-  abbrev all : List Reason
-  all = judgeReasons c ++ rs
+  pub tells : numbered rs ≡ true → (refusal rs ≡ 4 → (i j : ℕ) → i ≡ pairIn c .0 → j ≡ pairIn c .1 → Names c i j) → Matches rs ws → (None ws → Val v)
+      → Tells c ws (numbersOf rs) Val (answered rs (pairIn c) v)
+  tells k names m f =
+      let t = answered rs (pairIn c) v in
+      let n : t .number ≡ refusal rs = answered-number rs (pairIn c) v in
+      let d : Decided ws (refusal rs) = decided k m in
+      record {
+        decided = rw n d;
+        only = rw n (numbers rs);
+        named = λ e. let g = answered-four rs (pairIn c) v (sym n ∙ e) in names (sym n ∙ e) _ _ (g .0) (g .1);
+        nothing = λ z. answered-pair rs (pairIn c) v (λ e. z (n ∙ e));
+        carried = λ e. rw (answered-done rs (pairIn c) v (sym n ∙ e)) (f (d .done .0 (sym n ∙ e)));
+        empty = λ z. answered-value rs (pairIn c) v (λ e. z (n ∙ e));
+      }
 
+module _ (c : Code) (rs : List Reason) (ws : List Word) (Val : ℕ → Type 0) (v : ℕ) where
   pub answers : numbered rs ≡ true → unpaired rs ≡ true → Matches rs ws → (None (judgeWords c ++ ws) → Val v)
       → Answers c ws (numbersOf rs) Val (answered (judgeReasons c ++ rs) (pairIn c) v)
   unfolding judgeReasons
-  answers k u m f =
-      let t = answered all (pairIn c) v in
-      let n : t .number ≡ refusal all = answered-number all (pairIn c) v in
-      let d : Decided (judgeWords c ++ ws) (refusal all) = decided k (judge-matches c rs ws m) in
-      record {
-        decided = rw n d;
-        only = rw n (numbers all);
-        named = λ e. let f = answered-four all (pairIn c) v (sym n ∙ e) in judge-names c rs (no-four rs u) (sym n ∙ e) _ _ (f .0) (f .1);
-        nothing = λ z. answered-pair all (pairIn c) v (λ e. z (n ∙ e));
-        carried = λ e. rw (answered-done all (pairIn c) v (sym n ∙ e)) (f (d .done .0 (sym n ∙ e)));
-        empty = λ z. answered-value all (pairIn c) v (λ e. z (n ∙ e));
-      }
+  answers k u m f = tells c (judgeReasons c ++ rs) (judgeWords c ++ ws) Val v k (judge-names c rs (no-four rs u)) (judge-matches c rs ws m) f
 
 pub leaves : (rs : List Reason) (p : ℕ × ℕ) (v : ℕ) (before whole : List ℕ)
     → Leaves (answered rs p v .number) before whole (cond (eqb (refusal rs) 0) whole before)

@@ -1,11 +1,11 @@
 -- The judge's reasons in words: its tests hold exactly when the words do, and refusal 4 names what it should.
---   judge-matches     the judge's reasons are the words for them
---   judge-names       what refusal 4 names
+--   code-matches, judge-matches     a code's reasons, and the judge's, are the words for them
+--   code-names, judge-names         what refusal 4 names
 -- Assumes nothing.
 use mathlib.Core.Path.{_≡_, _∙_, refl, sym, ap}
 use mathlib.Core.Logic.{inl, inr, ⊎-elim, _≢_}
-use mathlib.Core.Bool.{false, not}
-use mathlib.Core.List.{List, _∷_, _++_}
+use mathlib.Core.Bool.{Bool, false, not}
+use mathlib.Core.List.{List, [], _∷_, _++_}
 use Prim.Native.Nat.{ℕ, _+_, _-_, _<_, _≤_}
 use native.Mathlib.Omega.{arith}
 use lib.Dec.{ltb}
@@ -17,7 +17,7 @@ use Rattle.codes.specs.Judge.{known, sized, mark, marks, pairFirst, pairSecond,
 use Rattle.codes.specs.Rules.{Known, Sized}
 use Rattle.codes.specs.declared.Code.{Code}
 use Rattle.demands.specs.Words.{Word}
-use Rattle.demands.specs.Judge.{Offends, Spoils, Faulty, FirstPair, FirstSpoilt, Names, judgeWords}
+use Rattle.demands.specs.Judge.{Offends, Spoils, Faulty, FirstPair, FirstSpoilt, Names, codeWords, judgeWords}
 use Rattle.codes.proofs.Bools.{apart, by-test, fails}
 use Rattle.codes.proofs.Told.{refusal-skip, refusal-stop}
 use Rattle.codes.proofs.Tests.{known-when, known-only, sized-when, sized-only}
@@ -112,11 +112,14 @@ module _ (c : Code) (k : Known (c .kind)) (s : Sized c) where
 
 -- the judge's tests, and the words for them
 
+abbrev pub coded : Code → Bool → List Reason
+coded c b = (2 when not (known (c .kind))) ∷ (3 when b) ∷ (4 when not (pointed (marks c) (c .points) (c .n))) ∷ []
+
 module _ (c : Code) where
   kind-says : Says (not (known (c .kind))) (Known (c .kind) → ⊥)
   kind-says = not-says (known (c .kind)) (known-only (c .kind), known-when (c .kind))
 
-  size-says : Says (not (sized c)) (Sized c → ⊥)
+  pub size-says : Says (not (sized c)) (Sized c → ⊥)
   size-says = not-says (sized c) (sized-only c, sized-when c)
 
   points-says : not (known (c .kind)) ≡ false → not (sized c) ≡ false → Says (not (pointed (marks c) (c .points) (c .n))) (Faulty c)
@@ -125,20 +128,30 @@ module _ (c : Code) where
       let s = sized-only c (not-false _ b) in
       (λ e. faulty-only c k s (not-true _ e), λ f. ap not (faulty-when c k s f))
 
-  -- the judge's reasons are those of judgeWords, whatever comes after them
-  pub judge-matches : (rs : List Reason) (ws : List Word) → Matches rs ws → Matches (judgeReasons c ++ rs) (judgeWords c ++ ws)
-  unfolding judgeReasons
-  judge-matches rs ws m = step refl kind-says (λ a. step refl size-says (λ b. step refl (points-says a b) (λ _. m)))
+-- a code's reasons in words, where b tests that a size is outside its rule, and P says it
 
-  pub judge-names : (more : List Reason) → refusal more ≢ 4 → refusal (judgeReasons c ++ more) ≡ 4 → (i j : ℕ) → i ≡ pairIn c .0 → j ≡ pairIn c .1 → Names c i j
-  unfolding judgeReasons
-  judge-names more z e =
+module _ (c : Code) (b : Bool) {P : Type 0} (says : Says b P) (right : b ≡ false → not (sized c) ≡ false) where
+  pub code-matches : (rs : List Reason) (ws : List Word) → Matches rs ws → Matches (coded c b ++ rs) (codeWords c P ++ ws)
+  code-matches rs ws m = step refl (kind-says c) (λ x. step refl says (λ y. step refl (points-says c x (right y)) (λ _. m)))
+
+  pub code-names : (more : List Reason) → refusal more ≢ 4 → refusal (coded c b ++ more) ≡ 4 → (i j : ℕ) → i ≡ pairIn c .0 → j ≡ pairIn c .1 → Names c i j
+  code-names more z e =
       let a = not (known (c .kind)) in
-      let b = not (sized c) in
       let d = not (pointed (marks c) (c .points) (c .n)) in
       let r₄ : List Reason = (4 when d) ∷ more in
       let r₃ : List Reason = (3 when b) ∷ r₄ in
       by-test a (λ x. absurd (omega (arith, sym (refusal-stop 2 r₃ x) ∙ e)))
       (λ x. by-test b (λ y. absurd (omega (arith, sym (refusal-skip 2 r₃ x ∙ refusal-stop 3 r₄ y) ∙ e)))
-      (λ y. by-test d (λ w. names c (known-only (c .kind) (not-false _ x)) (sized-only c (not-false _ y)) (not-true _ w))
+      (λ y. by-test d (λ w. names c (known-only (c .kind) (not-false _ x)) (sized-only c (not-false _ (right y))) (not-true _ w))
       (λ w. absurd (z (sym (refusal-skip 2 r₃ x ∙ refusal-skip 3 r₄ y ∙ refusal-skip 4 more w) ∙ e)))))
+
+-- the judge's own
+
+module _ (c : Code) where
+  pub judge-matches : (rs : List Reason) (ws : List Word) → Matches rs ws → Matches (judgeReasons c ++ rs) (judgeWords c ++ ws)
+  unfolding judgeReasons
+  judge-matches = code-matches c (not (sized c)) (size-says c) (λ e. e)
+
+  pub judge-names : (more : List Reason) → refusal more ≢ 4 → refusal (judgeReasons c ++ more) ≡ 4 → (i j : ℕ) → i ≡ pairIn c .0 → j ≡ pairIn c .1 → Names c i j
+  unfolding judgeReasons
+  judge-names = code-names c (not (sized c)) (size-says c) (λ e. e)

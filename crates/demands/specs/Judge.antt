@@ -6,7 +6,8 @@
 --   FirstPair c i j      of the offending pairs (i, j) has the smallest first node, and then the smallest second
 --   FirstSpoilt c i      no pair offends, and i is the first unused place whose point is not zero
 --   Names c i j          refusal 4 names i and j: the first pair, or the first unused place twice
---   judgeWords c         the reasons for refusing the code c, in order
+--   codeWords c P        the reasons for refusing the code c, in order, where P says that a size is outside its rule
+--   judgeWords c         those of the judge
 -- Assumes nothing.
 use mathlib.Core.Path.{_≡_}
 use mathlib.Core.Logic.{_⊎_, _≢_}
@@ -49,9 +50,12 @@ pub record FirstSpoilt (c : Code) (i : ℕ) : Type 0 where
 abbrev pub Names : Code → ℕ → ℕ → Type 0
 Names c i j = FirstPair c i j ⊎ (FirstSpoilt c i × (j ≡ i))
 
-abbrev pub judgeWords : Code → List Word
-judgeWords c =
+abbrev pub codeWords : Code → Type 0 → List Word
+codeWords c P =
     (2 because (Known (c .kind) → ⊥))
-    ∷ (3 because (Sized c → ⊥))
+    ∷ (3 because P)
     ∷ (4 because Faulty c)
     ∷ []
+
+abbrev pub judgeWords : Code → List Word
+judgeWords c = codeWords c (Sized c → ⊥)

@@ -11,3 +11,5 @@ pub mod Sizing
 pub mod Fresh
 pub mod Accepted
 pub mod Kept
+pub mod Worked
+pub mod Amended
