@@ -1,4 +1,4 @@
-/* Corkpaddle: stripes of pass books, by product-matrix MBR and MSR codes. Share files follow.
+/* Corkpaddle: stripes and share files of pass books, by product-matrix MBR and MSR codes.
  *
  * Every function takes any input and ends with an answer. It refuses exactly for the reasons of document 01, and a refusal
  * leaves every lent run as it was. What the library cannot see is the caller's part: a pointer is valid for its length, and
@@ -19,7 +19,7 @@ extern "C" {
 
 /* number: 0 for done, else the refusal: 1 RECORD, 2 KIND, 3 SIZE, 4 POINTS, 5 LENGTH, 6 NODE, 7 REPEAT, 8 MIXED, 9 ORDER,
  * 10 PLACE. first and second: the pair of places of refusal 4, else 0. count: the slip count that goes with a done answer
- * of a rebuild or a collection, else 0. */
+ * of a rebuild, a collection, a judged file or a taken slip, else 0. */
 typedef struct {
     uint32_t number, first, second, count;
 } corkpaddle_answer;
@@ -44,6 +44,29 @@ corkpaddle_answer corkpaddle_rebuild(const uint8_t *code, size_t code_len, uint8
 corkpaddle_answer corkpaddle_collect(const uint8_t *code, size_t code_len, const uint8_t *nodes, size_t nodes_len,
                                      const uint32_t *counts, size_t counts_len, const uint8_t *shares,
                                      size_t shares_len, uint8_t *output, size_t output_len);
+
+/* Whether the share file is accepted: 1, 2, 3, 4 with its pair, or 6, by the first faulty record. count: the file's count.
+ * A share file holds its own code, so this function and the next two take none. */
+corkpaddle_answer corkpaddle_judge_file(const uint8_t *file, size_t file_len);
+
+/* Judges the share file, then takes the slip, one P record of 10 bytes, into it: the slip's change is added to the share of
+ * its stripe, and the file's count goes up by one. After the file's faults 1, 9 and 10. count: the new count. */
+corkpaddle_answer corkpaddle_take_slip(uint8_t *file, size_t file_len, const uint8_t *slip, size_t slip_len);
+
+/* What the share file's station sends for a failed node: one H record for each stripe, 10 bytes each, into an output run of
+ * just that length. After the file's faults 5, 6 and, for the file's own node, 7. */
+corkpaddle_answer corkpaddle_answer_for(const uint8_t *file, size_t file_len, uint8_t failed, uint8_t *output,
+                                        size_t output_len);
+
+/* What stands at a place of a file. number: 0 for a whole record of a known kind, else 1. start and end: the body is
+ * the bytes from start on, up to but without end. next: the place after the record. On a refusal start and end are 0, and
+ * next is the place that was asked. */
+typedef struct {
+    uint64_t number, start, end, next;
+} corkpaddle_record;
+
+/* Reads the record at a place, counted from 0. Any place may be asked. */
+corkpaddle_record corkpaddle_read(const uint8_t *file, size_t file_len, uint64_t place);
 
 #ifdef __cplusplus
 }

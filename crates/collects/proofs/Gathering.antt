@@ -130,12 +130,12 @@ module _ (w : ℕ) (xs l : Vec) (R : Grid) where
 -- ---- kind 1
 
 module _ (k d : ℕ) (xs : List ℕ) (c f y far rows left near g r : List (List ℕ)) (X : Vec) (C : Grid) (hk : k ≤ d) (hd : d ≤ 31)
-    (hx : Same k (at xs) X) (hc : Holds k d c C) (σ : Solver k xs f) (hy : Holds 31 31 y (flip (cells c)))
+    (hx : Same k (at xs) X) (hc : Holds k d c C) (σ : Solver k xs f) (hy : Holds d d y (flip (cells c)))
     (hfar : Holds d k far (λ j i. pick j k 𝟘 (dot k (cells y j) (cells f i))))
     (hrows : Holds k d rows (λ u. pow (at xs u)))
     (hleft : Holds k k left (λ j u. cells y j u ⊕ dot d (cells rows u) (λ l. cells far l j)))
     (hnear : Holds k k near (λ j i. pick j 0 𝟘 (dot k (cells left j) (cells f i))))
-    (hg : Copied far 0 near 0 k g) (hr : Holds 31 31 r (flip (cells g)))
+    (hg : Copied far 0 near 0 k g) (hr : Holds d d r (flip (cells g)))
   where
     share-at : (t j : ℕ) → t < k → j < d → cells y j t ≡ C t j
     share-at t j h l = hy j (omega arith) t (omega arith) ∙ hc t h j l
@@ -238,9 +238,9 @@ module _ (w : ℕ) (xs : List ℕ) (c rows r h f near far g : List (List ℕ)) (
     unfolding stacked
     stacked-high i j m = simp (le-ltb i w m)
 
-    module _ (first₀ below second₀ : List (List ℕ)) (zero₀ : List (List ℕ)) (h1 : Holds 31 31 first₀ (flip (cells h)))
+    module _ (first₀ below second₀ : List (List ℕ)) (zero₀ : List (List ℕ)) (h1 : Holds w w first₀ (flip (cells h)))
         (hnear : Holds w w near (λ i j. pick i 0 𝟘 (dot w (cells f i) (cells first₀ j))))
-        (hb : Copied zero₀ 0 h w w below) (h2 : Holds 31 31 second₀ (flip (cells below)))
+        (hb : Copied zero₀ 0 h w w below) (h2 : Holds w w second₀ (flip (cells below)))
         (hfar : Holds w w far (λ i j. pick i 0 𝟘 (dot w (cells f i) (cells second₀ j))))
         (hg : Copied near w far 0 w g)
       where

@@ -26,7 +26,7 @@ pub fn weights(xs: [u8; 31], s: usize) -> [[u8; 31]; 31]
     ensures { λ r. ⌜ Solver s xs r ⌝ }
 {
     let b = solver::basis(xs, s);
-    flip(&b)
+    flip(&b, s)
 }
 
 // The first n powers of a point.

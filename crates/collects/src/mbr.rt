@@ -48,7 +48,7 @@ fn rests(
 {
     let mut g = [[0u8; 31]; 31];
     for j in 0..k {
-        g[j] = rest(rows, y[j], column(far, j), k, d, t);
+        g[j] = rest(rows, y[j], column(far, j, d), k, d, t);
     }
     g
 }
@@ -59,11 +59,11 @@ pub fn mbr(xs: [u8; 31], c: &[[u8; 31]; 31], k: usize, d: usize, t: &[u8; 768]) 
     ensures { λ r. ⌜ From k d xs (now (c .entry)) (λ X C. Holds k d r (joined k d X C)) ⌝ }
 {
     let f = weights(xs, k);
-    let y = flip(c);
+    let y = flip(c, d);
     let far = times_each(&f, &y, k, k, k, d, t);
     let rows = powers_each(xs, k, d, t);
     let left = rests(&rows, &y, &far, k, d, t);
     let near = times_each(&f, &left, k, k, 0, k, t);
     let g = copy_rows(far, 0, &near, 0, k);
-    flip(&g)
+    flip(&g, d)
 }

@@ -105,10 +105,10 @@ pub fn msr(xs: [u8; 31], c: &[[u8; 31]; 31], w: usize, t: &[u8; 768]) -> [[u8; 3
     let r = times_each(&rows, c, w + 1, w, 0, w + 1, t);
     let h = halves(xs, &r, &rows, w, t);
     let f = weights(xs, w);
-    let first = flip(&h);
+    let first = flip(&h, w);
     let near = times_each(&first, &f, w, w, 0, w, t);
     let below = copy_rows([[0u8; 31]; 31], 0, &h, w, w);
-    let second = flip(&below);
+    let second = flip(&below, w);
     let far = times_each(&second, &f, w, w, 0, w, t);
     copy_rows(near, w, &far, 0, w)
 }

@@ -21,24 +21,26 @@ pub fn dot(u: [u8; 31], v: [u8; 31], n: usize, t: &[u8; 768]) -> u8
     sum
 }
 
-pub fn column(g: &[[u8; 31]; 31], j: usize) -> [u8; 31]
-    requires { ⌜ j < 31 ⌝ }
-    ensures { λ r. ⌜ Same 31 (at r) (λ i. cells (now (g .entry)) i j) ⌝ }
+// The first n entries of the column j.
+pub fn column(g: &[[u8; 31]; 31], j: usize, n: usize) -> [u8; 31]
+    requires { ⌜ (j < 31) × (n ≤ 31) ⌝ }
+    ensures { λ r. ⌜ Same n (at r) (λ i. cells (now (g .entry)) i j) ⌝ }
 {
     let mut c = [0u8; 31];
-    for i in 0..31 {
+    for i in 0..n {
         c[i] = g[i][j];
     }
     c
 }
 
-// Rows and columns exchanged.
-pub fn flip(g: &[[u8; 31]; 31]) -> [[u8; 31]; 31]
-    ensures { λ r. ⌜ Holds 31 31 r (flip (cells (now (g .entry)))) ⌝ }
+// Rows and columns exchanged, of the first n by n.
+pub fn flip(g: &[[u8; 31]; 31], n: usize) -> [[u8; 31]; 31]
+    requires { ⌜ n ≤ 31 ⌝ }
+    ensures { λ r. ⌜ Holds n n r (flip (cells (now (g .entry)))) ⌝ }
 {
     let mut f = [[0u8; 31]; 31];
-    for j in 0..31 {
-        f[j] = column(g, j);
+    for j in 0..n {
+        f[j] = column(g, j, n);
     }
     f
 }

@@ -1,2 +1,3 @@
 pub mod Boundary
 pub mod Help
+pub mod Reader

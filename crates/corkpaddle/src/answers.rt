@@ -3,11 +3,13 @@ use crate::Answer;
 use codes::Judged;
 use codes::Refusal;
 use rebuilds::Counted;
+use shares::Filed;
 use stripes::Encoded;
 ghost use Rattle.codes.specs.Told.{refused, done};
 ghost use Rattle.codes.specs.Judge.{sayJudged};
 ghost use Rattle.stripes.specs.Encode.{sayEncoded};
 ghost use Rattle.rebuilds.specs.Rebuild.{sayCounted};
+ghost use Rattle.shares.specs.File.{sayFiled};
 ghost use Rattle.corkpaddle.specs.Boundary.{Says};
 
 pub fn refused(r: Refusal) -> Answer
@@ -59,6 +61,23 @@ pub fn of_counted(answer: Counted) -> Answer
         }
         Counted::Done(count) => {
             return done(count);
+        }
+    }
+}
+
+pub fn of_filed(answer: Filed) -> Answer
+    ensures { λ a. ⌜ Says a (sayFiled answer) ⌝ }
+{
+    match answer {
+        Filed::Refused(fault) => {
+            return refused(fault);
+        }
+        Filed::Good {
+            node: _,
+            stripes: _,
+            count: slips,
+        } => {
+            return done(slips);
         }
     }
 }

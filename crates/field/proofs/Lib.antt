@@ -6,4 +6,5 @@ pub mod Mul
 pub mod Pow
 pub mod Quotient
 pub mod Lookup
+mod Fills
 pub mod Laws

@@ -1,11 +1,13 @@
 -- The tables of powers and logarithms, and what a look into one table for both answers. The tables are data: that they are
 -- right is shown in proofs/Powers.antt and proofs/Lookup.antt, for the whole of each at once.
 -- powers: the powers of 2, from 0 to 254.   logs: the logarithm of each symbol.   tables: the logarithms, and 512 powers after them.
+-- Filled t i: the first i places of t have what tables has there.   Starts i n: from place i on tables has the first n powers.
 -- unlessZero a b v: v, but 0 where a or b is 0.   byTable t a b, overTable t a b: the product and the quotient, as the table t has them, whatever stands in it.
 -- Assumes nothing.
+use mathlib.Core.Path.{_≡_}
 use mathlib.Core.List.{List, [], _∷_, _++_}
-use Prim.Native.Nat.{ℕ, zero, suc, _+_, _-_}
-use lib.ListN.{getD, take}
+use Prim.Native.Nat.{ℕ, zero, suc, _+_, _-_, _<_, _≤_}
+use lib.ListN.{length, getD, take}
 
 abbrev pub powers : List ℕ
 powers =
@@ -49,6 +51,15 @@ logs =
 -- 256 logarithms, and from place 256 on the powers, which repeat: a sum of two logarithms needs no division by 255
 unfoldable pub tables : List ℕ
 tables = logs ++ take 512 (powers ++ (powers ++ powers))
+
+pub record Filled (t : List ℕ) (i : ℕ) : Type 0 where
+  pub long : length t ≡ 768
+  pub same : (k : ℕ) → k < i → getD t k 0 ≡ getD tables k 0
+
+pub record Starts (i n : ℕ) : Type 0 where
+  pub few : n ≤ 255
+  pub room : i + n ≤ 768
+  pub there : (k : ℕ) → k < n → getD powers k 0 ≡ getD tables (i + k) 0
 
 -- v, but 0 where a or b is 0
 unfoldable pub unlessZero : ℕ → ℕ → ℕ → ℕ

@@ -1,9 +1,9 @@
 // The product and the quotient by one table that the caller lends. A constant array is built anew at each use, and a lent one is not:
 // a loop makes the table once and lends it at each turn.
 ghost use mathlib.Core.Path.{_≡_};
-ghost use Prim.Native.Nat.{_<_};
+ghost use Prim.Native.Nat.{_+_, _<_};
 ghost use lib.ListN.{getD};
-ghost use Rattle.field.specs.Tables.{tables, byTable, overTable};
+ghost use Rattle.field.specs.Tables.{tables, Filled, Starts, byTable, overTable};
 use crate::Symbol;
 use crate::antilogs::POWERS;
 use crate::logs::LOGS;
@@ -49,21 +49,32 @@ impl Symbol {
     }
 }
 
-// 256 logarithms, and 512 powers after them.
+// n powers in order over what stands from a place on.
+fn lay(mut all: [u8; 768], from: usize, n: usize) -> [u8; 768]
+    requires { ⌜ Filled all from × Starts from n ⌝ }
+    ensures { λ r. ⌜ Filled r (from + n) ⌝ }
+{
+    let powers = POWERS;
+    let mut j = 0;
+    while j < n {
+        all[from + j] = powers[j];
+        j += 1;
+    }
+    all
+}
+
+// 256 logarithms, and 512 powers after them: twice all, and two more.
 pub fn tables() -> [u8; 768]
     ensures { λ r. ⌜ r ≡ tables ⌝ }
 {
     let logs = LOGS;
-    let powers = POWERS;
     let mut all = [0u8; 768];
     let mut i = 0;
     while i < 256 {
         all[i] = logs[i];
         i += 1;
     }
-    while i < 768 {
-        all[i] = powers[(i - 256) % 255];
-        i += 1;
-    }
-    all
+    let once = lay(all, 256, 255);
+    let twice = lay(once, 511, 255);
+    lay(twice, 766, 2)
 }

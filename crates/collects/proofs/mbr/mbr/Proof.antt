@@ -37,7 +37,11 @@ copy-rows-requires : tie.Need-copy-rows-requires
 copy-rows-requires c κs = search needs
 
 flip-requires-2 : tie.Need-flip-requires-2
-flip-requires-2 c κs = search needs
+flip-requires-2 c κs =
+    let n = c .before .before .before in
+    let p = n .before .before .before .before .before .before .before in
+    let s = p .before .before .before .before .before .before in
+    s .pre .1
 
 returns : tie.Need-returns
 returns c =

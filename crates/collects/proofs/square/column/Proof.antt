@@ -14,13 +14,13 @@ use Rattle.collects.proofs.square.column.Statement.{statement}
 use Rattle.collects.proofs.square.column.Tie as tie
 
 abbrev Inv-loop : tie.InvT-loop
-Inv-loop g j c₀ i₀ c i = (i ≤ 31) × (length c ≡ 31) × Same i (at c) (λ e. cells g e j)
+Inv-loop g j n c₀ i₀ c i = (i ≤ n) × (n ≤ 31) × (j < 31) × (length c ≡ 31) × Same i (at c) (λ e. cells g e j)
 
 abbrev μ-loop : tie.MeasureT-loop
-μ-loop g j c₀ i₀ c i = 31 - i
+μ-loop g j n c₀ i₀ c i = n - i
 
 loop-holds : tie.Need-loop-holds Inv-loop μ-loop
-loop-holds c = (search needs, search needs, below-none _)
+loop-holds c = (search needs, search needs, search needs, search needs, below-none _)
 
 mul-c : tie.Need-mul-c Inv-loop μ-loop
 mul-c c = search needs
@@ -42,10 +42,10 @@ loop-less c = search needs
 
 loop-again : tie.Need-loop-again Inv-loop μ-loop
 loop-again c =
-    let l = c .before .before .loop in (search needs, search needs, same-store (l .c) _ (omega (arith, l .inv .1)) (l .inv .2) refl)
+    let l = c .before .before .loop in (search needs, search needs, search needs, search needs, same-store (l .c) _ (omega (arith, l .inv .3)) (l .inv .4) refl)
 
 returns : tie.Need-returns Inv-loop μ-loop
-returns c = λ i h. c .before .loop .inv .2 i (omega arith)
+returns c = λ i h. c .before .loop .inv .4 i (omega arith)
 
 pub column-spec : {M : Type 1} → statement M
 column-spec =

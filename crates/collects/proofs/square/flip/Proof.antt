@@ -17,13 +17,13 @@ use Rattle.collects.proofs.square.flip.Statement.{statement}
 use Rattle.collects.proofs.square.flip.Tie as tie
 
 abbrev Inv-loop : tie.InvT-loop
-Inv-loop g f₀ j₀ f j = (j ≤ 31) × (length f ≡ 31) × Holds j 31 f (flip (cells g))
+Inv-loop g n f₀ j₀ f j = (j ≤ n) × (n ≤ 31) × (length f ≡ 31) × Holds j n f (flip (cells g))
 
 abbrev μ-loop : tie.MeasureT-loop
-μ-loop g f₀ j₀ f j = 31 - j
+μ-loop g n f₀ j₀ f j = n - j
 
 loop-holds : tie.Need-loop-holds Inv-loop μ-loop
-loop-holds c = (search needs, search needs, below-none _)
+loop-holds c = (search needs, search needs, search needs, below-none _)
 
 column-requires : tie.Need-column-requires Inv-loop μ-loop
 column-requires c κs = search needs
@@ -43,10 +43,10 @@ loop-less c = search needs
 loop-again : tie.Need-loop-again Inv-loop μ-loop
 loop-again c =
     let l = c .before .before .loop in
-    (search needs, search needs, holds-store (l .f) (c .column .result) (search needs) (l .inv .2) (c .column .ensures))
+    (search needs, search needs, search needs, holds-store (l .f) (c .column .result) (search needs) (l .inv .3) (c .column .ensures))
 
 returns : tie.Need-returns Inv-loop μ-loop
-returns c = λ i h. c .before .loop .inv .2 i (omega arith)
+returns c = λ i h. c .before .loop .inv .3 i (omega arith)
 
 pub flip-spec : {M : Type 1} → statement M
 flip-spec =

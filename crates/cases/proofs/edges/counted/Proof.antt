@@ -1,10 +1,10 @@
--- `cases::counted` is safe and ends: the place stays within the array, and goes up by one each turn.
+-- `cases::edges::counted` is safe and ends: the place stays within the array, and goes up by one each turn.
 -- Assumes nothing.
 use Prim.Native.Nat.{_≤_, _-_}
 use native.Mathlib.Omega.{arith}
 use borrow.Author.Needs.{needs}
-use Rattle.cases.proofs.counted.Statement.{statement}
-use Rattle.cases.proofs.counted.Tie as tie
+use Rattle.cases.proofs.edges.counted.Statement.{statement}
+use Rattle.cases.proofs.edges.counted.Tie as tie
 
 abbrev Inv-loop : tie.InvT-loop
 Inv-loop n points₀ i₀ x₀ points i x = i ≤ 32
