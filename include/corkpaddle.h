@@ -1,11 +1,14 @@
-/* Corkpaddle: stripes and share files of pass books, by product-matrix MBR and MSR codes.
+/* Corkpaddle: stripes, share files and pass books, by product-matrix MBR and MSR codes.
  *
  * Every function takes any input and ends with an answer. It refuses exactly for the reasons of document 01, and a refusal
  * leaves every lent run as it was. What the library cannot see is the caller's part: a pointer is valid for its length, and
  * a run lent to be written overlaps no other run of the call. A null pointer with length 0 is an empty run.
  *
  * A code is the 36 bytes of a C record's body: kind, n, k, d and 32 points, the unused ones zero. A code run of another
- * length is refusal 5.
+ * length is refusal 5; or 3, the smaller, where the call has a stripe total that is not from 1 to 1,024.
+ *
+ * A share file of t stripes has 45 + 34 t bytes: a C record, an N record and t D records of 34 bytes. An H record has 10
+ * bytes, and a batch is d of them, one after the other.
  */
 #ifndef CORKPADDLE_H
 #define CORKPADDLE_H
@@ -67,6 +70,19 @@ typedef struct {
 
 /* Reads the record at a place, counted from 0. Any place may be asked. */
 corkpaddle_record corkpaddle_read(const uint8_t *file, size_t file_len, uint64_t place);
+
+/* The asked node's D record of one stripe from a batch of H records, into an output run of 34. */
+corkpaddle_answer corkpaddle_rebuild_batch(const uint8_t *code, size_t code_len, uint8_t asked, const uint8_t *batch,
+                                           size_t batch_len, uint8_t *output, size_t output_len);
+
+/* The asked node's whole share file from a batch for each stripe, in the order of the stripes, in one run. */
+corkpaddle_answer corkpaddle_rebuild_file(const uint8_t *code, size_t code_len, uint8_t asked, uint32_t stripes,
+                                          const uint8_t *batches, size_t batches_len, uint8_t *output,
+                                          size_t output_len);
+
+/* A node's fresh share file, at count 0, of a book of B bytes for each stripe. */
+corkpaddle_answer corkpaddle_cut(const uint8_t *code, size_t code_len, uint8_t node, uint32_t stripes,
+                                 const uint8_t *book, size_t book_len, uint8_t *output, size_t output_len);
 
 #ifdef __cplusplus
 }

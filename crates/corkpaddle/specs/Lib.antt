@@ -1,3 +1,4 @@
 pub mod Boundary
 pub mod Help
 pub mod Reader
+pub mod Totals

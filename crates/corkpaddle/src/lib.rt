@@ -5,6 +5,7 @@ pub mod files; // files.rt: the functions on one share file
 mod help; // help.rt: a helper's symbol into a lent output
 pub mod reader; // reader.rt: the reader of records
 pub mod stripe; // stripe.rt: the functions on one stripe
+pub mod wholes; // wholes.rt: batches, whole share files and books
 
 // An answer as it crosses: document 01's number, the pair of refusal 4, and the slip count of a done answer.
 #[repr(C)]

@@ -22,7 +22,7 @@ ghost use Rattle.corkpaddle.specs.Boundary.{Says, isCode, coded, kept};
 ghost use Rattle.corkpaddle.specs.Help.{helpTold, helpLeaves};
 
 // Whether a run is as long as a code.
-fn is_code(run: &[u8]) -> bool
+pub(crate) fn is_code(run: &[u8]) -> bool
     ensures { λ r. ⌜ r ≡ isCode (now (run .entry)) ⌝ }
 {
     run.len() == 36

@@ -16,6 +16,7 @@ pub use judging::judge_file;
 pub use places::stripe_at;
 pub use slips::take_judged;
 pub use slips::take_slip;
+pub use totals::is_total;
 pub use totals::judge_total;
 pub use writing::code_record;
 pub use writing::help_record;

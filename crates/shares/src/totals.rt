@@ -1,4 +1,4 @@
-// The judge of a code together with a stripe total: a total outside its rule is one more fault of size.
+// Stripe totals, and the judge of a code together with one: a total outside its rule is one more fault of size.
 use codes::Code;
 use codes::Judged;
 use codes::Refusal;
@@ -10,6 +10,7 @@ ghost use Rattle.codes.specs.Judge.{pairIn, sayJudged};
 ghost use Rattle.shares.specs.File.{totalled};
 ghost use Rattle.shares.specs.Total.{codeReasons};
 
+// Whether a stripe total is within its rule.
 pub fn is_total(t: u32) -> bool
     ensures { λ r. ⌜ r ≡ totalled t ⌝ }
 {
