@@ -5,8 +5,10 @@ use crate::calls::program::SLIPS;
 use crate::case::Input;
 use crate::random::Random;
 use crate::shares::{code_of, count_of, damage_file, damage_slip, good_file, good_slip, total_of};
+use std::thread;
 
 const CASES: u64 = 20_000;
+const THREADS: u64 = 2;
 
 /// Slips in order; a faulty one now and then, which may use up no number.
 fn slips(random: &mut Random, file: &[u8]) -> Vec<u8> {
@@ -44,12 +46,22 @@ fn whole_input(random: &mut Random) -> Vec<u8> {
     input
 }
 
-pub fn run(random: &mut Random, scale: u64) -> u64 {
-    let cases = CASES * scale / 100;
+fn run_cases(mut random: Random, cases: u64) {
     for case in 0..cases {
-        let input = if case == 0 { Vec::new() } else { whole_input(random) };
+        let input = if case == 0 { Vec::new() } else { whole_input(&mut random) };
         let pieces = Input::Number(random.next());
         SLIPS.check(vec![Input::Bytes(input), pieces, Input::Bytes(Vec::new())]);
     }
-    cases
+}
+
+/// In two threads, each with a random stream of its own: a case spends its time waiting for a process to start.
+pub fn run(random: &mut Random, scale: u64) -> u64 {
+    let each = CASES * scale / 100 / THREADS;
+    thread::scope(|scope| {
+        for _ in 0..THREADS {
+            let stream = Random::of_layer(random.next(), "program");
+            scope.spawn(move || run_cases(stream, each));
+        }
+    });
+    each * THREADS
 }

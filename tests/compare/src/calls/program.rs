@@ -40,6 +40,9 @@ fn default_program() -> PathBuf {
     PathBuf::from(concat!(env!("CARGO_MANIFEST_DIR"), "/../../target/bin/slips"))
 }
 
+/// Less than a pipe holds. So short an input, and its output, cannot fill their pipes: nobody waits for the reader.
+const PIPE: usize = 20_000;
+
 fn start() -> Child {
     let piped = Command::new(program()).stdin(Stdio::piped()).stdout(Stdio::piped()).spawn();
     piped.unwrap_or_else(|error| {
@@ -53,10 +56,16 @@ fn run_process(input: &[u8], pieces: u64) -> (Reply, Vec<u8>) {
     let stdin = child.stdin.take().expect("a pipe");
     let mut stdout = child.stdout.take().expect("a pipe");
     let mut written = Vec::new();
-    thread::scope(|scope| {
-        scope.spawn(|| feed(stdin, input, pieces));
-        stdout.read_to_end(&mut written).expect("a readable pipe");
-    });
+    let mut read = || stdout.read_to_end(&mut written).expect("a readable pipe");
+    if input.len() < PIPE {
+        feed(stdin, input, pieces);
+        read();
+    } else {
+        thread::scope(|scope| {
+            scope.spawn(|| feed(stdin, input, pieces));
+            read();
+        });
+    }
     let status = child.wait().expect("a process that ends").code();
     ([status.map_or(u64::MAX, |code| code as u64), 0, 0, 0], written)
 }
