@@ -70,7 +70,7 @@ is-within c f a b = fails _ (λ e. out (outside-says c f .0 e))
 
 -- ---- rebuilding
 
-not-both : (a b : Bool) → not a ≡ false → not b ≡ false → not (a && b) ≡ false
+pub not-both : (a b : Bool) → not a ≡ false → not b ≡ false → not (a && b) ≡ false
 not-both true b e d = d
 not-both false b e d = e
 

@@ -1,7 +1,9 @@
 -- Demand 1, proved. Says and Inputs: tests and the words for them. Words: from tests to words. Judge, Answer, Stripes, Files, Batches: the operations.
--- Fixed, Only: what meets it is one answer. Demand 2, proved: Honest.
+-- Fixed: what meets it is one answer. Demand 2, proved: Honest, Stored. WrongStripes: what does not meet it.
 -- Demand 3, proved. Books, Taken, Touched: slips. Joined, Helpers, Renewed: rebuilding. Sent: what our operations give.
 -- History: the demand. Wrong: what does not meet it.
+-- Two answers that meet a promise are equal. Only: what an answer says fixes it. EqualField, EqualRecords, EqualCodes, EqualStripes, EqualFiles, EqualReaders,
+-- EqualBoundary: a theorem for each public function. A new public function has its theorem in the file of its crate.
 pub mod Says
 pub mod Inputs
 pub mod Words
@@ -13,6 +15,7 @@ pub mod Batches
 pub mod Fixed
 pub mod Only
 pub mod Honest
+pub mod Stored
 pub mod Books
 pub mod Taken
 pub mod Touched
@@ -22,3 +25,11 @@ pub mod Renewed
 pub mod Sent
 pub mod History
 pub mod Wrong
+pub mod WrongStripes
+pub mod EqualField
+pub mod EqualRecords
+pub mod EqualCodes
+pub mod EqualStripes
+pub mod EqualFiles
+pub mod EqualBoundary
+pub mod EqualReaders

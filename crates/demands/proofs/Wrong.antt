@@ -36,17 +36,17 @@ use Rattle.demands.specs.History
 
 -- ---- the setting
 
-abbrev smallest : Code
+abbrev pub smallest : Code
 smallest = record { kind = 1; n = 2; k = 1; d = 1; points = record { 0 = 0 } ∷ record { 0 = 1 } ∷ replicate 30 (record { 0 = 0 }) }
 
 abbrev Small : Setting
 Small = record { code = smallest; total = 1; book = 9 ∷ []; slips = record { stripe = 0; index = 0; change = 1 } ∷ [] }
 
-good : judged smallest ≡ done 0
+pub good : judged smallest ≡ done 0
 unfolding judged judgeReasons answered tell refusal known sized pointed marks mark pairFirst pairSecond unusedAt first
 good = refl
 
-one-byte : bytes smallest ≡ 1
+pub one-byte : bytes smallest ≡ 1
 unfolding bytes
 one-byte = refl
 

@@ -1,6 +1,7 @@
 -- The demands of document 01. Demand 1: Words (which reason decides), Inputs (what can be wrong with inputs), Judge (the judge's reasons),
--- Answer (the demand, once for all), Stripes (the four operations on a stripe), Files (share files and books), Batches (rebuilding from H records). Demand 2: Rebuild, Collect, and Honest, the demand as a predicate.
--- Demand 3: History.
+-- Answer (the demand, once for all), Stripes (the four operations on a stripe), Files (share files and books), Batches (rebuilding from H records).
+-- Demand 2: Rebuild, Collect, and Honest, the demand on a rebuild and on a collection; Stored, the demand on all operations on a stripe.
+-- Demand 3: History. Equal: two answers that meet a promise are equal.
 pub mod Words
 pub mod Inputs
 pub mod Judge
@@ -11,4 +12,6 @@ pub mod Batches
 pub mod Rebuild
 pub mod Collect
 pub mod Honest
+pub mod Stored
 pub mod History
+pub mod Equal
