@@ -2,7 +2,7 @@
 -- Fixed: what meets it is one answer. Demand 2, proved: Honest, Stored. WrongStripes: what does not meet it.
 -- Demand 3, proved. Books, Taken, Touched: slips. Joined, Helpers, Renewed: rebuilding. Sent: what our operations give.
 -- History: the demand. Wrong: what does not meet it.
--- Two answers that meet a promise are equal. Only: what an answer says fixes it. EqualField, EqualRecords, EqualCodes, EqualStripes, EqualFiles, EqualReaders,
+-- Two answers that meet a promise are equal. Only: what an answer says fixes it. EqualField, EqualRecords, EqualCodes, EqualStripes, EqualFiles, EqualReaders, EqualTriples, EqualStreams,
 -- EqualBoundary: a theorem for each public function. A new public function has its theorem in the file of its crate.
 pub mod Says
 pub mod Inputs
@@ -33,3 +33,5 @@ pub mod EqualStripes
 pub mod EqualFiles
 pub mod EqualBoundary
 pub mod EqualReaders
+pub mod EqualTriples
+pub mod EqualStreams
