@@ -31,9 +31,10 @@ module _ {M : Type 1} (𝓤 : URA M) (H : Heap 𝓤) (A : Atoms 𝓤) (mem : Mem
       × ((s t : AtExit rebuild-from.ended κs) → Q s → Q t → now (s .1 .1 .1 .0) ≡ now (t .1 .1 .1 .0))
   rebuild-from-equal κs a =
       let hs = now (a .1 .1 .0) in
-      let o = now (a .1 .1 .1 .0) in
-      (λ x. sayCounted x ≡ rebuildTold (a .0) (a .1 .0 .0) (nodesOf hs) (symbolsOf hs) (countsOf hs) o,
-      λ s. now (s .1 .1 .1 .0) ≡ rebuildLeaves (a .0) (a .1 .0 .0) (nodesOf hs) (symbolsOf hs) (countsOf hs) o,
-      λ x s. refl,
-      λ x y p q. counted-only x y (p ∙ sym q),
-      λ s t p q. p ∙ sym q)
+      let o = now (a .1 .1 .1 .0) in (
+        λ x. sayCounted x ≡ rebuildTold (a .0) (a .1 .0 .0) (nodesOf hs) (symbolsOf hs) (countsOf hs) o,
+        λ s. now (s .1 .1 .1 .0) ≡ rebuildLeaves (a .0) (a .1 .0 .0) (nodesOf hs) (symbolsOf hs) (countsOf hs) o,
+        λ x s. refl,
+        λ x y p q. counted-only x y (p ∙ sym q),
+        λ s t p q. p ∙ sym q,
+      )

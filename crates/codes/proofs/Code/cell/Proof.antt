@@ -68,9 +68,11 @@ returns-4 c =
     let u = cell-s2 (s .self) (s .b) (c .before .before .before .before .if1 .left) l in
     let e = c .in-triangle3 .ensures in
     let f = c .before .before .triangle-size2 .ensures in
-    let n = c .before .before .before .less2 .result in
-    (e .0 ∙ sym (u .0), e .1 ∙ ap (λ (x : ℕ). upRow n (s .b - x)) f ∙ ap (λ (x : ℕ). upRow x (s .b - start x x)) (sym w) ∙ sym (u .1),
-    e .2 ∙ ap (λ (x : ℕ). upCol n (s .b - x)) f ∙ ap (λ (x : ℕ). upCol x (s .b - start x x)) (sym w) ∙ sym (u .2))
+    let n = c .before .before .before .less2 .result in (
+      e .0 ∙ sym (u .0),
+      e .1 ∙ ap (λ (x : ℕ). upRow n (s .b - x)) f ∙ ap (λ (x : ℕ). upRow x (s .b - start x x)) (sym w) ∙ sym (u .1),
+      e .2 ∙ ap (λ (x : ℕ). upCol n (s .b - x)) f ∙ ap (λ (x : ℕ). upCol x (s .b - start x x)) (sym w) ∙ sym (u .2),
+    )
 
 pub cell-spec : {M : Type 1} → statement M
 cell-spec =
