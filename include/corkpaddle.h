@@ -1,7 +1,7 @@
 /* Corkpaddle: stripes, share files and pass books, by product-matrix MBR and MSR codes.
  *
  * Every function takes any input and ends with an answer. It refuses exactly for the reasons of document 01, and a refusal
- * leaves every lent run as it was. What the library cannot see is the caller's part: a pointer is valid for its length, and
+ * leaves every lent run as it was. What the library cannot see is the caller's part: a pointer is valid for its length and aligned for its type, and
  * a run lent to be written overlaps no other run of the call. A null pointer with length 0 is an empty run.
  *
  * A code is the 36 bytes of a C record's body: kind, n, k, d and 32 points, the unused ones zero. A code run of another

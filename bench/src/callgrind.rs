@@ -22,7 +22,7 @@ fn counted(job: usize, side: usize, times: usize) -> u64 {
     count.expect("a count")
 }
 
-/// A call's own share: two calls more than none, halved, leave out what comes before.
+/// A call's own share: three calls less one, halved, leave out what comes before.
 fn instructions(job: usize, side: usize) -> u64 {
     (counted(job, side, 3) - counted(job, side, 1)) / 2
 }

@@ -9,7 +9,7 @@ pub struct Timed {
     rounds: Vec<[f64; 2]>,
 }
 
-/// One side's medians, and the median of the rounds' ratios.
+/// Each side's median, and the median of the rounds' ratios.
 pub struct Medians {
     pub library: f64,
     pub plain: f64,

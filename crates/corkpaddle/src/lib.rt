@@ -1,4 +1,4 @@
-// The outside boundary: what Rust, C and Python programs link. Each exported function is thin, above the proved functions,
+// The outside boundary: what Rust and C programs link. Each exported function is thin, above the proved functions,
 // takes any input and has a promise of its own. include/corkpaddle.h declares them.
 mod answers; // answers.rt: the answers of the proved functions, as they cross
 pub mod files; // files.rt: the functions on one share file

@@ -8,8 +8,6 @@ use Rattle.shares.proofs.judge_file.Kinds as judge-file-kinds
 use Rattle.shares.proofs.judge_file.Reads as judge-file-reads
 use Rattle.shares.proofs.take_slip.Kinds as take-slip-kinds
 use Rattle.shares.proofs.take_slip.Reads as take-slip-reads
-use Rattle.shares.proofs.take_judged.Kinds as take-judged-kinds
-use Rattle.shares.proofs.take_judged.Reads as take-judged-reads
 use Rattle.shares.proofs.is_node.Kinds as is-node-kinds
 use Rattle.shares.proofs.is_node.Reads as is-node-reads
 use Rattle.shares.proofs.stripe_at.Kinds as stripe-at-kinds
@@ -48,9 +46,6 @@ judge-file-equal κs a x y s t p q = filed-only x y (p .answer ∙ sym (q .answe
 
 pub take-slip-equal : EqualLeft 2 take-slip-kinds.ps take-slip-kinds.r take-slip-reads.Post (λ κs s. now (s .0))
 take-slip-equal κs a x y s t p q = (counted-only x y (p .0 ∙ sym (q .0)), p .1 ∙ sym (q .1))
-
-pub take-judged-equal : EqualLeft 2 take-judged-kinds.ps take-judged-kinds.r take-judged-reads.Post (λ κs s. now (s .0))
-take-judged-equal κs a x y s t p q = (counted-only x y (p .0 ∙ sym (q .0)), p .1 ∙ sym (q .1))
 
 pub is-node-equal : Equal 0 is-node-kinds.ps is-node-kinds.r is-node-reads.Post
 is-node-equal κs a x y s t p q = p ∙ sym q

@@ -14,7 +14,6 @@ pub use judging::code_in;
 pub use judging::is_node;
 pub use judging::judge_file;
 pub use places::stripe_at;
-pub use slips::take_judged;
 pub use slips::take_slip;
 pub use totals::is_total;
 pub use totals::judge_total;

@@ -117,7 +117,7 @@ fn take(file: &mut [u8], slip: &[u8]) -> u32
 }
 
 // Takes a slip in a file that was judged before.
-pub fn take_judged(file: &mut [u8], slip: &[u8]) -> Counted
+fn take_judged(file: &mut [u8], slip: &[u8]) -> Counted
     ensures told { λ r. ⌜ sayCounted r ≡ judgedTold (now (file .entry)) (now (slip .entry)) ⌝ }
     ensures left { λ _. ⌜ now (file .exit) ≡ judgedLeaves (now (file .entry)) (now (slip .entry)) ⌝ }
 {
