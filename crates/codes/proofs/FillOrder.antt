@@ -3,13 +3,11 @@
 --   up-row-none, up-col-none     a triangle without rows
 --   cell-s, cell-t, cell-s1, cell-s2     the cell of a symbol of S, T, S1 and S2
 -- Assumes nothing.
-use mathlib.Core.Path.{_≡_, _∙_, refl, ap}
-use mathlib.Core.Bool.{cond}
-use Prim.Native.Nat.{ℕ, zero, suc, _+_, _*_, _-_, _/_, _%_, _<_, _≤_}
+use mathlib.Core.Path.{_≡_, refl}
+use Prim.Native.Nat.{ℕ, zero, suc, _+_, _-_, _/_, _%_, _<_, _≤_}
 use native.Mathlib.Nat.{one-mul, zero-mul, sub-zero}
 use native.Mathlib.Numerals.{add-one}
 use native.Mathlib.Omega.{arith}
-use lib.Dec.{ltb}
 use borrow.Author.Tests.{eq-eqb, ne-eqb, lt-ltb, le-ltb}
 use Rattle.codes.specs.Places.{start, upRow, upCol}
 use Rattle.codes.specs.Matrix.{lane, rowOf, colOf}

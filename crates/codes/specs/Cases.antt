@@ -6,8 +6,6 @@
 use mathlib.Core.Path.{_≡_, refl}
 use mathlib.Core.List.{List, [], _∷_, map}
 use Prim.Native.Nat.{ℕ}
-use lib.ListN.{getD, set}
-use lib.Bits.{bitXor}
 use Rattle.field.specs.Field.{mul, shifted, double}
 use Rattle.field.specs.declared.Symbol.{Symbol}
 use Rattle.algebra.specs.Symbol.{symbol, _⊕_, _⊗_, 𝟘, 𝟙, pow}

@@ -9,7 +9,7 @@ use mathlib.Core.Bool.{cond}
 use mathlib.Core.List.{List}
 use Prim.Native.Nat.{ℕ, _+_, _*_, _-_}
 use lib.Dec.{eqb, ltb}
-use Rattle.algebra.specs.Symbol.{F, _⊕_, _⊗_, pow}
+use Rattle.algebra.specs.Symbol.{_⊕_, _⊗_, pow}
 use Rattle.algebra.specs.Sums.{Vec, Grid, sum}
 use Rattle.algebra.specs.Poly.{interp}
 use Rattle.algebra.specs.Frame.{off}

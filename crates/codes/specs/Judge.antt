@@ -8,7 +8,7 @@
 --   judgeReasons c               the reasons for refusing c, in order;   pairOf, pairIn c    the pair that refusal 4 names, from 1
 --   judged c                     what the judge tells of c;   sayJudged   what its answer says
 -- Assumes nothing.
-use mathlib.Core.Bool.{Bool, true, false, not, _&&_, _||_, cond}
+use mathlib.Core.Bool.{Bool, not, _&&_, _||_, cond}
 use mathlib.Core.List.{List, [], _∷_, map}
 use Prim.Native.Nat.{ℕ, _+_, _*_, _-_, _%_}
 use lib.Dec.{eqb, ltb, leb}

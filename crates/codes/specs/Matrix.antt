@@ -8,7 +8,7 @@
 use mathlib.Core.Bool.{cond}
 use Prim.Native.Nat.{ℕ, _+_, _*_, _-_, _/_, _%_}
 use lib.Dec.{eqb, ltb}
-use Rattle.algebra.specs.Symbol.{F, 𝟘}
+use Rattle.algebra.specs.Symbol.{𝟘}
 use Rattle.algebra.specs.Sums.{Vec, Grid}
 use Rattle.codes.specs.Places.{start, triangle, upRow, upCol}
 use Rattle.codes.specs.declared.Code.{Code}

@@ -8,7 +8,7 @@ use mathlib.Core.List.{List}
 use Prim.Native.Nat.{ℕ, _+_}
 use lib.Dec.{eqb}
 use lib.ListN.{getD}
-use Rattle.algebra.specs.Symbol.{F, _⊕_, _⊗_}
+use Rattle.algebra.specs.Symbol.{_⊕_, _⊗_}
 use Rattle.algebra.specs.Sums.{Vec}
 use Rattle.algebra.specs.Poly.{interp}
 use Rattle.algebra.specs.Bytes.{at, table}

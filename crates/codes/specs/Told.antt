@@ -7,9 +7,9 @@
 --   tell n p v           what the number n says, with the pair p of refusal 4 and the value v of done
 --   answered rs p v      the answer of an operation whose reasons are rs, with the pair p of refusal 4 and the value v of done
 -- Assumes nothing.
-use mathlib.Core.Bool.{Bool, true, false, cond}
+use mathlib.Core.Bool.{Bool, cond}
 use mathlib.Core.List.{List, [], _∷_}
-use Prim.Native.Nat.{ℕ, zero, suc}
+use Prim.Native.Nat.{ℕ}
 use lib.Dec.{eqb}
 use Rattle.codes.specs.declared.Refusal.{Refusal}
 use Rattle.codes.specs.declared.Refusal.the-variants.{Record, Kind, Size, Points, Length, Node, Repeat, Mixed, Order, Place}

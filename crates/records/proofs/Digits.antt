@@ -9,13 +9,13 @@
 use mathlib.Core.List.{List, [], _∷_, _++_, append-assoc}
 use mathlib.Core.Path.{_≡_, refl, sym, ap, _∙_}
 use Prim.Native.Nat.{ℕ, zero, suc, _+_, _*_, _/_, _%_, _^_, _<_, _≤_}
-use native.Mathlib.Nat.{pow-suc, pow-le-pow-right, one-le-pow, mod-eq-of-lt}
+use native.Mathlib.Nat.{pow-suc, pow-le-pow-right, one-le-pow}
 use native.Mathlib.Numerals.{add-one}
 use native.Mathlib.Omega.{arith}
 use lib.Arith.{digits-lt, digits-div, digits-mod, mod-mul}
 use lib.Dec.{lit<}
 use lib.ListN.{length, getD, take, drop, length-append, length-drop}
-use lib.Seq.{getD-append-add, getD-at, take-suc, getD-drop}
+use lib.Seq.{getD-at, take-suc, getD-drop}
 use Rattle.records.specs.Numbers.{numberAt, digits}
 
 pub number-none : (s : List ℕ) (at : ℕ) → numberAt 0 s at ≡ 0

@@ -13,7 +13,7 @@ use mathlib.Core.Path.{_≡_}
 use Prim.Native.Nat.{ℕ, _+_, _≤_, _<_}
 use lib.ListN.{length, getD}
 use Rattle.records.specs.Kinds.{Kind, kinds, bodyOf}
-use Rattle.records.specs.Reading.{Told, telling, told, endAt}
+use Rattle.records.specs.Reading.{telling, told, endAt}
 use Rattle.records.specs.declared.reading.Read.{Read}
 
 abbrev pub NoneOf : List Kind → ℕ → Type 0

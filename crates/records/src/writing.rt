@@ -1,6 +1,5 @@
 // Writing: a run of bytes put over those at a place, all of it or nothing.
 ghost use mathlib.Core.Path.{_≡_};
-ghost use lib.ListN.{length};
 ghost use Rattle.records.specs.Writing.{fits, putAt};
 
 // Puts the bytes over those at the place, and says that they fit; where they do not, nothing changes.

@@ -5,7 +5,7 @@
 -- Assumes nothing.
 use mathlib.Core.Path.{_≡_, _∙_, refl, sym, ap, ap₂}
 use mathlib.Core.List.{List, [], _∷_, _++_, append-assoc}
-use Prim.Native.Nat.{ℕ, zero, suc, _+_, _*_, _-_, _%_, _^_, _<_, _≤_}
+use Prim.Native.Nat.{ℕ, zero, suc, _+_, _*_, _-_, _<_, _≤_}
 use native.Mathlib.Nat.{mod-eq-of-lt, suc-mul}
 use native.Mathlib.Omega.{arith}
 use lib.Bits.{bitXor}
@@ -20,7 +20,7 @@ use Rattle.codes.specs.Share.{share, changed, slipped}
 use Rattle.codes.specs.declared.Code.{Code}
 use Rattle.codes.proofs.Sizes.{alpha-high, bytes-high, small}
 use Rattle.codes.proofs.Slip.{share-length, share-slipped}
-use Rattle.shares.specs.Fields.{codeRecord, nodeRecord, stripeRecord, codeIn, nodeIn, countIn, stripeAt, part, shareIn}
+use Rattle.shares.specs.Fields.{codeRecord, nodeRecord, stripeRecord, stripeAt, part}
 use Rattle.shares.specs.Slip.{slipNumber, slipStripe, slipIndex, slipChange, takenIn}
 use Rattle.shares.specs.Afresh.{stripeOf, stripesFrom, afresh, Slip, slipRecord, amended}
 use Rattle.shares.proofs.Parts.{put-in}

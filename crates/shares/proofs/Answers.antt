@@ -4,14 +4,14 @@
 --   says-refused, says-good       a refusal, and a done answer, of a judged file
 --   says-more                     reasons before those that were judged, none of which holds
 -- Assumes nothing.
-use mathlib.Core.Path.{_≡_, _∙_, refl, sym, ap}
+use mathlib.Core.Path.{_≡_, _∙_, sym, ap}
 use mathlib.Core.Logic.{_≢_}
-use mathlib.Core.Bool.{Bool, true, false, cond}
+use mathlib.Core.Bool.{cond}
 use mathlib.Core.List.{List, _++_}
 use Prim.Native.Nat.{ℕ}
 use lib.Dec.{eqb}
 use borrow.Author.Tests.{eq-eqb, ne-eqb}
-use Rattle.codes.specs.Told.{Told, Reason, numberOf, refused, done, refusal, answered}
+use Rattle.codes.specs.Told.{Told, Reason, refused, done, refusal, answered}
 use Rattle.codes.specs.Reasons.{Clear}
 use Rattle.codes.specs.Judge.{pairIn}
 use Rattle.codes.specs.declared.Refusal.{Refusal}

@@ -2,13 +2,13 @@
 -- Assumes nothing.
 use mathlib.Core.Path.{_≡_, _∙_, refl, sym, ap}
 use mathlib.Core.Bool.{Bool, true, false, not, _&&_, and-false}
-use mathlib.Core.List.{List, [], _∷_, _++_}
+use mathlib.Core.List.{List, [], _++_}
 use Prim.Native.Nat.{ℕ, _+_, _<_, _≤_}
 use native.Mathlib.Omega.{arith}
 use lib.Dec.{eqb, ltb}
 use lib.ListN.{length, getD}
 use borrow.Author.Tests.{eq-eqb, ne-eqb, lt-ltb, le-ltb, eqb-true, ltb-true, not-false}
-use Rattle.codes.specs.Told.{Told, Reason, _when_, refused, done, refusal, answered}
+use Rattle.codes.specs.Told.{refused, done, answered}
 use Rattle.codes.specs.Reasons.{Clear, numbered}
 use Rattle.codes.specs.Judge.{pairIn}
 use Rattle.codes.specs.Sizes.{bytes}
@@ -17,7 +17,7 @@ use Rattle.codes.specs.declared.Refusal.the-variants.{Record, Order, Place}
 use Rattle.codes.proofs.Bools.{both, and-left, and-right}
 use Rattle.codes.proofs.Told.{refused-first, answered-skip, answered-hand-on, answered-goes-on, done-clear, clear-done, refusal-goes-on}
 use Rattle.shares.specs.Fields.{codeIn, stripesIn, countIn}
-use Rattle.shares.specs.File.{fileReasons, fileTold}
+use Rattle.shares.specs.File.{fileReasons}
 use Rattle.shares.specs.Slip.{slipNumber, slipStripe, slipIndex, slipFaults, slipReasons, slipTold, slipLeaves, judgedTold, judgedLeaves, leftBy, takenIn}
 use Rattle.shares.proofs.Answers.{nonzero, left-refused, left-done}
 

@@ -6,7 +6,7 @@
 -- Assumes nothing.
 use mathlib.Core.Path.{_≡_, _∙_, refl, sym, ap, ap₂}
 use mathlib.Core.List.{List, [], _∷_, _++_, append-assoc, map}
-use Prim.Native.Nat.{ℕ, zero, suc, _+_, _*_, _-_, _%_, _^_, _<_, _≤_}
+use Prim.Native.Nat.{ℕ, zero, suc, _+_, _*_, _-_, _<_, _≤_}
 use native.Mathlib.Nat.{mod-eq-of-lt, not-suc-le-zero, le-of-suc-le-suc}
 use native.Mathlib.Omega.{arith}
 use lib.ListN.{length, getD, take, drop, replicate, length-append, length-map, length-replicate, getD-replicate, take-append-drop, List·getD-map, List·getD-append}
@@ -15,12 +15,12 @@ use Rattle.field.specs.declared.Symbol.{Symbol}
 use Rattle.records.specs.Numbers.{numberAt, digits}
 use Rattle.records.proofs.Digits.{length-digits, number-digits}
 use Rattle.codes.specs.Sizes.{none, alpha}
-use Rattle.codes.specs.Body.{symbolsAt, codeAt}
+use Rattle.codes.specs.Body.{codeAt}
 use Rattle.codes.specs.Share.{share}
 use Rattle.codes.specs.declared.Code.{Code}
 use Rattle.codes.proofs.Symbols.{symbols-are}
 use Rattle.codes.proofs.Slip.{share-length}
-use Rattle.shares.specs.Fields.{numberOf, codeRecord, nodeRecord, stripeRecord, codeIn, nodeIn, stripesIn, countIn, stripeAt, part, shareIn}
+use Rattle.shares.specs.Fields.{numberOf, codeRecord, nodeRecord, stripeRecord, codeIn, nodeIn, stripesIn, countIn, stripeAt, shareIn}
 use Rattle.shares.specs.Afresh.{stripeOf, stripesFrom, afresh}
 
 -- ---- lengths

@@ -5,10 +5,10 @@
 --   taken-good                a taken slip keeps it
 -- Assumes nothing.
 use mathlib.Core.Path.{_≡_, _∙_, refl, sym, ap, ap₂, subst}
-use mathlib.Core.Bool.{Bool, true, false, not, _&&_, _||_}
-use mathlib.Core.List.{List, [], _∷_, _++_}
+use mathlib.Core.Bool.{Bool, not, _&&_, _||_}
+use mathlib.Core.List.{List, _++_}
 use mathlib.Core.Logic.{_⊎_, inl, inr, by-cases}
-use Prim.Native.Nat.{ℕ, zero, suc, _+_, _*_, _-_, _%_, _^_, _<_, _≤_}
+use Prim.Native.Nat.{ℕ, zero, suc, _+_, _*_, _-_, _^_, _<_, _≤_}
 use native.Mathlib.Nat.{mod-eq-of-lt}
 use native.Mathlib.Decide.{decLe, decLt}
 use native.Mathlib.Omega.{arith}
@@ -22,7 +22,7 @@ use Rattle.records.specs.Reading.{whole, wholeAs}
 use Rattle.records.specs.Writing.{putAt}
 use Rattle.records.proofs.Digits.{length-digits, number-digits}
 use Rattle.records.proofs.Runs.{length-put, drop-put}
-use Rattle.codes.specs.Told.{Told, Reason, done}
+use Rattle.codes.specs.Told.{done}
 use Rattle.codes.specs.Reasons.{Clear}
 use Rattle.codes.specs.Sizes.{alpha}
 use Rattle.codes.specs.Judge.{judgeReasons}
@@ -33,12 +33,12 @@ use Rattle.codes.proofs.Symbols.{symbols-length, symbols-byte, symbols-are}
 use Rattle.codes.proofs.Sizes.{alpha-high}
 use Rattle.codes.proofs.Slip.{slipped-length}
 use Rattle.stripes.specs.Lists.{within}
-use Rattle.shares.specs.Fields.{codeIn, nodeIn, stripesIn, countIn, stripeAt, part, shareIn}
+use Rattle.shares.specs.Fields.{codeIn, nodeIn, stripesIn, countIn, stripeAt, shareIn}
 use Rattle.shares.specs.File.{below, zeroPast, spare, stripeGood, totalled, nodeReasons, fileReasons, fileTold}
 use Rattle.shares.specs.Slip.{slipStripe, slipIndex, slipChange, takenIn}
 use Rattle.shares.proofs.Parts.{put-in, put-past, part-length}
 use Rattle.shares.proofs.Below.{below-same}
-use Rattle.shares.proofs.Accepted.{clear-append, accepted-told, judge-part, node-part, Facts, facts}
+use Rattle.shares.proofs.Accepted.{clear-append, accepted-told, judge-part, node-part, facts}
 
 -- ---- a byte outside a run that was put
 

@@ -1,15 +1,14 @@
 -- The ladder of reasons for refusing a share file, step by step: each law is one answer of the judge.
 -- Assumes nothing.
 use mathlib.Core.Path.{_≡_, _∙_, refl, sym, ap}
-use mathlib.Core.Bool.{Bool, true, false, not, _&&_}
-use mathlib.Core.List.{List, [], _∷_, _++_}
+use mathlib.Core.Bool.{true, false, not}
+use mathlib.Core.List.{List, _∷_}
 use Prim.Native.Nat.{ℕ}
 use native.Mathlib.Omega.{arith}
-use lib.Dec.{eqb}
 use lib.ListN.{length}
 use borrow.Author.Tests.{eq-eqb, ne-eqb}
 use Rattle.records.specs.Reading.{wholeAs}
-use Rattle.codes.specs.Told.{Told, Reason, _when_, refused, done, answered}
+use Rattle.codes.specs.Told.{_when_, refused, done, answered}
 use Rattle.codes.specs.Reasons.{Clear, numbered}
 use Rattle.codes.specs.Judge.{judgeReasons, judged, pairIn}
 use Rattle.codes.specs.Sizes.{alpha}
@@ -22,8 +21,8 @@ use Rattle.stripes.specs.Lists.{within}
 use Rattle.shares.specs.Fields.{codeIn, nodeIn, stripesIn, countIn, stripeAt}
 use Rattle.shares.specs.File.{below, stripeGood, totalled, nodeReasons, fileReasons, Says}
 use Rattle.shares.specs.declared.Filed.{Filed}
-use Rattle.shares.specs.declared.Filed.the-variants.{Good, Refused}
-use Rattle.shares.proofs.Answers.{says-refused, says-good, says-more}
+use Rattle.shares.specs.declared.Filed.the-variants.{Refused}
+use Rattle.shares.proofs.Answers.{says-refused, says-more}
 
 module _ (s : List ℕ) where
   abbrev Pair : ℕ × ℕ

@@ -8,18 +8,16 @@
 --   part-byte        a byte of a part
 -- Assumes nothing.
 use mathlib.Core.Path.{_≡_, _∙_, refl, sym, ap, ap₂}
-use mathlib.Core.Bool.{Bool, true, false}
 use mathlib.Core.List.{List, [], _∷_, _++_, append-assoc}
 use mathlib.Core.Logic.{by-cases}
 use Prim.Native.Nat.{ℕ, zero, suc, _+_, _-_, _<_, _≤_}
-use native.Mathlib.Nat.{not-suc-le-zero}
 use native.Mathlib.Decide.{decLe}
 use native.Mathlib.Omega.{arith}
 use borrow.Author.Tests.{le-leb, lt-leb}
-use lib.ListN.{length, getD, take, drop, set, length-append, length-take, length-drop, length-set, take-append-drop, drop-of-length-le}
-use lib.Seq.{length-take-le, take-at, drop-at, set-append-left, drop-drop, take-take, getD-take, getD-drop}
+use lib.ListN.{length, getD, take, drop, set, length-take, length-drop, length-set, take-append-drop, drop-of-length-le}
+use lib.Seq.{length-take-le, take-at, drop-at, set-append-left, drop-drop, getD-take, getD-drop}
 use Rattle.records.specs.Writing.{putAt}
-use Rattle.records.proofs.Runs.{length-put, take-put, drop-put}
+use Rattle.records.proofs.Runs.{length-put, drop-put}
 use Rattle.shares.specs.Fields.{part}
 
 -- ---- lists

@@ -10,11 +10,10 @@ use mathlib.Core.Path.{_≡_, _∙_, refl, sym, ap, ap₂}
 use mathlib.Core.List.{List, [], _∷_, _++_, append-assoc, map}
 use Prim.Native.Nat.{ℕ, zero, suc, _+_, _-_, _<_, _≤_}
 use native.Mathlib.Omega.{arith}
-use lib.ListN.{length, getD, take, drop, replicate, length-append, length-take, length-map, List·getD-map}
-use lib.Seq.{take-at, drop-at, length-take-le, drop-drop, drop-append-add, take-all, drop-length, ext-getD}
+use lib.ListN.{length, getD, take, drop, replicate, length-append, length-map, List·getD-map}
+use lib.Seq.{drop-drop, drop-length, ext-getD}
 use Rattle.records.specs.Numbers.{digits}
 use Rattle.records.specs.Writing.{putAt}
-use Rattle.records.proofs.Digits.{length-digits}
 use Rattle.records.proofs.Runs.{length-put, drop-put, take-put}
 use Rattle.field.specs.declared.Symbol.{Symbol}
 use Rattle.codes.specs.Sizes.{none}

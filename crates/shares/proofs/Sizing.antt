@@ -3,16 +3,14 @@
 --   kind-first        an unknown kind is refused before it
 --   size-next         else the size is refused
 -- Assumes nothing.
-use mathlib.Core.Path.{_≡_, _∙_, refl, sym, ap}
+use mathlib.Core.Path.{_≡_, _∙_, sym, ap}
 use mathlib.Core.Logic.{_≢_}
 use mathlib.Core.Bool.{Bool, true, false, not, _||_, or-true, or-false}
-use mathlib.Core.List.{List, [], _∷_}
-use Prim.Native.Nat.{ℕ}
+use mathlib.Core.List.{[], _∷_}
 use native.Mathlib.Omega.{arith}
-use Rattle.codes.specs.Told.{Told, Reason, _when_, numberOf, refused, done, refusal, answered}
-use Rattle.codes.specs.Judge.{known, sized, pointed, marks, pairIn, judgeReasons, judged}
+use Rattle.codes.specs.Told.{Told, _when_, refused, refusal, answered}
+use Rattle.codes.specs.Judge.{known, sized, pairIn, judgeReasons, judged}
 use Rattle.codes.specs.declared.Code.{Code}
-use Rattle.codes.specs.declared.Refusal.{Refusal}
 use Rattle.codes.specs.declared.Refusal.the-variants.{Size}
 use Rattle.codes.proofs.Bools.{by-test}
 use Rattle.codes.proofs.Told.{refused-first, answered-skip, answered-stop, answered-number, refusal-skip, refusal-stop}

@@ -5,17 +5,15 @@
 --   stripe-none, stripe-other, stripe-spare            a D record by its parts
 -- Assumes nothing.
 use mathlib.Core.Path.{_≡_, _∙_, refl, sym, ap}
-use mathlib.Core.Bool.{Bool, true, false, _&&_, _||_, or-true}
+use mathlib.Core.Bool.{Bool, true, false, _&&_, or-true}
 use mathlib.Core.List.{List}
-use Prim.Native.Nat.{ℕ, _+_, _*_, _<_, _≤_}
+use Prim.Native.Nat.{ℕ, _+_, _<_, _≤_}
 use native.Mathlib.Omega.{arith}
 use borrow.Author.Tests.{lt-ltb, le-ltb, eq-eqb, ne-eqb}
-use lib.Dec.{eqb, ltb}
 use lib.ListN.{length, getD}
 use Rattle.records.specs.Kinds.{bodyOf}
 use Rattle.records.specs.Numbers.{numberAt}
 use Rattle.records.specs.Reading.{wholeAs, answered, readAs}
-use Rattle.records.specs.declared.reading.Read.{Read}
 use Rattle.records.specs.declared.reading.Read.the-variants.{Body, Refused}
 use Rattle.records.proofs.Whole.{body-holds, as-kind, as-read, read-inside}
 use Rattle.shares.specs.Fields.{stripeAt}

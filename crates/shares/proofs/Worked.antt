@@ -9,7 +9,6 @@ use Prim.Native.Nat.{ℕ}
 use lib.ListN.{replicate}
 use Rattle.field.specs.Field.{mul, shifted, double}
 use Rattle.field.specs.Field as field
-use Rattle.field.specs.declared.Symbol.{Symbol}
 use Rattle.algebra.specs.Symbol.{symbol, _⊕_, _⊗_, 𝟘, 𝟙, pow}
 use Rattle.algebra.specs.Sums.{sum}
 use Rattle.algebra.specs.Bytes.{table}

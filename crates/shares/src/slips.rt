@@ -20,7 +20,7 @@ use records::writing::put;
 ghost use mathlib.Core.Path.{_≡_};
 ghost use Prim.Native.Nat.{_+_, _≤_};
 ghost use lib.Bits.{bitXor};
-ghost use lib.ListN.{length, getD, set};
+ghost use lib.ListN.{getD, set};
 ghost use Rattle.algebra.specs.Symbol.{symbol, _⊗_, pow};
 ghost use Rattle.records.specs.Writing.{putAt};
 ghost use Rattle.codes.specs.Told.{answered};

@@ -5,7 +5,7 @@
 --   each-by-itself     the answers, the file and whether the reading has ended are those of taking each slip by itself
 -- Assumes nothing.
 use mathlib.Core.Path.{_≡_, _∙_, refl, sym, ap, ap₂}
-use mathlib.Core.Bool.{Bool, true, false, cond}
+use mathlib.Core.Bool.{Bool, true, cond}
 use mathlib.Core.List.{List, [], _∷_}
 use Prim.Native.Nat.{ℕ, _+_, _<_}
 use native.Mathlib.Omega.{arith}
@@ -25,7 +25,7 @@ use Rattle.shares.specs.Slip.{slipStripe, slipIndex, slipChange, slipFaults, ju
 use Rattle.shares.proofs.Kept.{put-before, taken-clear}
 use Rattle.shares.proofs.Faults.{slip-told, slip-left}
 use Rattle.shares.proofs.Accepted.{accepted-told}
-use Rattle.streams.specs.Stream.{Way, judgedBefore, byItself, answersTo, fileAfter, hasEnded}
+use Rattle.streams.specs.Stream.{judgedBefore, byItself, answersTo, fileAfter, hasEnded}
 use Rattle.streams.specs.Claims.{StaysAccepted, EachByItself}
 
 -- ---- accepted files

@@ -7,7 +7,7 @@
 --   room-enough        a run of 40,960 bytes has room for its answers in 8,192
 -- Assumes nothing.
 use mathlib.Core.Path.{_≡_, _∙_, refl, sym, ap, ap₂}
-use mathlib.Core.Bool.{Bool, true, false, cond, _||_, _&&_, or-true}
+use mathlib.Core.Bool.{true, false, cond, _&&_, or-true}
 use mathlib.Core.List.{List, [], _∷_, _++_, append-assoc, append-nil}
 use mathlib.Core.Logic.{by-cases}
 use Prim.Native.Nat.{ℕ, zero, suc, _+_, _*_, _-_, _<_, _≤_}
@@ -23,7 +23,7 @@ use Rattle.shares.specs.File.{totalled, fileTold}
 use Rattle.shares.proofs.Kept.{same-number}
 use Rattle.streams.specs.Length.{fileLength}
 use Rattle.streams.specs.Stream.{recordsIn, records, Way, judgedBefore, byItself, answerOf, answersTo, fileAfter, hasEnded, begun}
-use Rattle.streams.specs.Program.{fileOf, runOf, outputOf, refusal, programOf, headOf, leftOf, fileRead, restOf, isLast, chunks, piecesOf}
+use Rattle.streams.specs.Program.{fileOf, runOf, outputOf, refusal, programOf, headOf, leftOf, fileRead, restOf, chunks, piecesOf}
 use Rattle.streams.specs.Claims.{InParts, InPieces, RoomEnough}
 use Rattle.streams.proofs.Steps.{more}
 use Rattle.streams.proofs.Alone.{each-by-itself}

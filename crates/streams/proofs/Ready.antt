@@ -3,11 +3,11 @@
 --   share-one, share-two     the share after a slip on the diagonal, and off it
 --   ready-stays     what was made for a file serves it also after a slip
 -- Assumes nothing.
-use mathlib.Core.Path.{_≡_, _∙_, refl, sym, ap, ap₂}
+use mathlib.Core.Path.{_≡_, _∙_, sym, ap, ap₂}
 use mathlib.Core.List.{List}
-use Prim.Native.Nat.{ℕ, _+_, _-_, _<_, _≤_}
+use Prim.Native.Nat.{ℕ, _-_, _<_}
 use native.Mathlib.Omega.{arith}
-use lib.ListN.{length, getD}
+use lib.ListN.{getD}
 use Rattle.field.specs.Field
 use Rattle.field.specs.Tables.{tables, byTable}
 use Rattle.field.proofs.Laws.{by-tables, pow-lt}
@@ -18,7 +18,7 @@ use Rattle.shares.specs.Fields.{codeIn, nodeIn}
 use Rattle.shares.specs.Slip.{judgedLeaves}
 use Rattle.shares.proofs.Changes.{amount-is}
 use Rattle.shares.proofs.Kept.{same-code}
-use Rattle.streams.specs.Ready.{pointFor, Powers, Ready}
+use Rattle.streams.specs.Ready.{Powers, Ready}
 use Rattle.streams.proofs.Alone.{head-stays}
 
 pub weigh-near : (δ x n a p r : ℕ) (row t : List ℕ) → δ < 256 → n < 31 → Powers x row → t ≡ tables → a ≡ δ → p ≡ getD row n 0

@@ -4,19 +4,17 @@
 --   Going               what holds while a run is taken, at the place at, with so many bytes written; it starts, goes on, stops and is done
 -- Assumes nothing.
 use mathlib.Core.Path.{_≡_, _∙_, refl, sym, ap, ap₂}
-use mathlib.Core.Bool.{Bool, true, false, cond}
+use mathlib.Core.Bool.{true, false}
 use mathlib.Core.List.{List, [], _∷_, _++_, append-assoc, append-nil}
 use mathlib.Core.Logic.{by-cases}
-use Prim.Native.Nat.{ℕ, zero, suc, _+_, _*_, _-_, _/_, _<_, _≤_}
+use Prim.Native.Nat.{ℕ, zero, suc, _+_, _*_, _-_, _<_, _≤_}
 use native.Mathlib.Decide.{decLt}
 use native.Mathlib.Omega.{arith}
 use borrow.Author.Tests.{eq-eqb, ne-eqb}
-use lib.Dec.{eqb}
-use lib.ListN.{length, take, drop, length-append, length-drop, take-append-drop, drop-of-length-le}
-use lib.Seq.{take-all, drop-drop, length-take-le, take-length}
+use lib.ListN.{length, take, drop, length-drop, take-append-drop, drop-of-length-le}
+use lib.Seq.{take-all, drop-drop, length-take-le}
 use Rattle.records.specs.Writing.{putAt}
 use Rattle.records.proofs.Runs.{length-put, take-put, drop-put}
-use Rattle.codes.specs.Told.{Told}
 use Rattle.streams.specs.Stream.{recordsIn, records, Way, judgedBefore, answerOf, answersTo, fileAfter, hasEnded, begun, laid, Walks}
 
 -- ---- records of 10 bytes

@@ -14,7 +14,7 @@ use shares::stripe_at;
 ghost use mathlib.Core.Path.{_≡_};
 ghost use Prim.Native.Nat.{_+_, _-_, _≤_};
 ghost use lib.Bits.{bitXor};
-ghost use lib.ListN.{length, getD, set};
+ghost use lib.ListN.{getD, set};
 ghost use Rattle.field.specs.Tables.{tables};
 ghost use Rattle.algebra.specs.Symbol.{symbol, _⊗_, pow};
 ghost use Rattle.records.specs.Writing.{putAt};

@@ -1,6 +1,6 @@
 -- `judging::is_spare` meets its contract. The loop's invariant: the symbols passed are among the first a, or zero.
 -- Assumes nothing.
-use mathlib.Core.Path.{_≡_, _∙_, refl, sym, ap, ap₂}
+use mathlib.Core.Path.{_≡_}
 use mathlib.Core.Bool.{true}
 use Prim.Native.Nat.{_-_, _≤_}
 use Rattle.shares.specs.File.{below, zeroPast}

@@ -1,6 +1,6 @@
 -- `judging::is_stripe` meets its contract: a refusal by the reader, by the stripe's number, or by the symbols past alpha.
 -- Assumes nothing.
-use mathlib.Core.Path.{_≡_, _∙_, refl, sym, ap, ap₂}
+use mathlib.Core.Path.{_∙_, sym}
 use native.Mathlib.Omega.{arith}
 use Rattle.shares.proofs.Stripes.{stripe-none, stripe-other, stripe-spare, stripe-room}
 use borrow.Author.Needs.{needs}

@@ -1,7 +1,6 @@
 -- `slips::change_share` meets its contract: the byte of the column, then that of the row.
 -- Assumes nothing.
-use mathlib.Core.Path.{_≡_, _∙_, refl, sym, ap, ap₂}
-use Prim.Native.Nat.{ℕ, _+_, _*_, _≤_}
+use Prim.Native.Nat.{_≤_}
 use native.Mathlib.Omega.{arith}
 use Rattle.shares.proofs.Changes.{lane-small, row-small, col-small, alpha-small, base-small, cell-one, cell-two}
 use borrow.Author.Needs.{needs}

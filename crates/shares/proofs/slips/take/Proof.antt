@@ -1,10 +1,8 @@
 -- `slips::take` meets its contract: the count is written, then the share, which stands behind it.
 -- Assumes nothing.
-use mathlib.Core.Path.{_≡_, _∙_, refl, sym, ap, ap₂}
-use mathlib.Core.List.{List}
-use Prim.Native.Nat.{ℕ, _+_, _≤_}
+use mathlib.Core.Path.{_∙_, ap}
+use Prim.Native.Nat.{ℕ, _+_}
 use native.Mathlib.Omega.{arith}
-use lib.ListN.{getD}
 use Rattle.records.specs.Writing.{putAt}
 use Rattle.shares.specs.Fields.{stripeAt}
 use Rattle.codes.specs.declared.Code.{Code}

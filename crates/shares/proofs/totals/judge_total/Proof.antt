@@ -1,10 +1,8 @@
 -- `totals::judge_total` meets its contract: a total within its rule changes nothing, and another is refused before the points.
 -- Assumes nothing.
-use mathlib.Core.Path.{_≡_, _∙_, refl, sym, ap}
+use mathlib.Core.Path.{_∙_, sym, ap}
 use mathlib.Core.Bool.{not}
 use native.Mathlib.Omega.{arith}
-use Prim.Native.Nat.{ℕ}
-use Rattle.codes.specs.Told.{Told}
 use Rattle.codes.specs.Judge.{sayJudged}
 use Rattle.codes.specs.declared.Judged.{Judged}
 use Rattle.shares.proofs.Sizing.{total-fits, kind-first, size-next}

@@ -1,6 +1,6 @@
 -- `heads::file_length` meets its contract: 45 where the stripe total is not there or outside its rule, and else what it says.
 -- Assumes nothing.
-use mathlib.Core.Path.{_∙_, sym, ap}
+use mathlib.Core.Path.{_∙_, ap}
 use native.Mathlib.Omega.{arith}
 use Rattle.shares.specs.Fields.{stripeAt}
 use Rattle.streams.proofs.Rooms.{no-head, no-stripes, too-many, whole-length}

@@ -1,7 +1,7 @@
 -- `runs::take_all` meets its contract. The loop's invariant: the answers of the records passed are written, the rest is as it was (Going), and what was
 -- made of the file's code and node still serves the file (Ready).
 -- Assumes nothing.
-use mathlib.Core.Path.{_≡_, _∙_, ap, ap₂}
+use mathlib.Core.Path.{_∙_, ap, ap₂}
 use Prim.Native.Nat.{ℕ, _-_, _<_}
 use native.Mathlib.Omega.{arith}
 use lib.ListN.{length, getD}
