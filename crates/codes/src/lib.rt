@@ -7,10 +7,10 @@ ghost use lib.ListN.{getD};
 ghost use Rattle.codes.specs.Sizes.{alpha, bytes, none};
 ghost use Rattle.codes.specs.Judge.{judged, sayJudged};
 
-mod body;
-mod cells;
-mod limits;
-mod points;
+mod body; // body.rt: a code read off the body of its C record
+mod cells; // cells.rt: where a message's symbol stands in the message matrix
+mod limits; // limits.rt: the kinds and sizes that a code may have
+mod points; // points.rt: the first offending pair of points, and unused points
 
 pub use body::code_at;
 pub use cells::Cell;

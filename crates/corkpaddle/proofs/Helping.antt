@@ -4,14 +4,13 @@
 --   helps            the proved function's symbol is what the output holds
 -- Assumes nothing.
 use mathlib.Core.Path.{_≡_, _∙_, refl, sym, ap}
-use mathlib.Core.Bool.{true}
 use mathlib.Core.List.{List, [], _∷_, append-nil}
 use Prim.Native.Nat.{ℕ}
 use native.Mathlib.Omega.{arith}
 use borrow.Author.Tests.{eq-eqb, ne-eqb}
 use lib.ListN.{length, set}
 use Rattle.codes.specs.Told.{Told, Reason, refused, done, answered}
-use Rattle.codes.specs.Reasons.{Clear, numbered}
+use Rattle.codes.specs.Reasons.{Clear}
 use Rattle.codes.specs.Judge.{judgeReasons, pairIn, judged}
 use Rattle.codes.specs.Share.{symbolFor}
 use Rattle.codes.specs.declared.Code.{Code}

@@ -2,7 +2,7 @@
 //
 // The work on slices and numbers is done elsewhere: reading in the crate of records, and where to go on in the file beside
 // this one. The functions here only take a reader apart and put one together, since each of them is proved by hand.
-mod onward;
+mod onward; // onward.rt: where reading goes on after an answer
 
 use crate::onward::left_after;
 use crate::onward::place_after;

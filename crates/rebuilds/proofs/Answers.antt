@@ -4,14 +4,13 @@
 --   refused-told, refused-leaves, done-told, done-leaves          the operation's answer and output, by that of its tests
 -- Assumes nothing.
 use mathlib.Core.Path.{_≡_, _∙_, refl, sym, ap}
-use mathlib.Core.Logic.{_≢_}
 use mathlib.Core.Bool.{Bool, true, false, not, cond}
 use mathlib.Core.List.{List, [], _∷_, _++_, append-nil}
 use Prim.Native.Nat.{ℕ}
 use native.Mathlib.Omega.{arith}
 use borrow.Author.Tests.{eq-eqb, ne-eqb, not-false}
 use lib.Dec.{eqb}
-use Rattle.codes.specs.Told.{Told, Reason, _when_, numberOf, refused, done, refusal, answered}
+use Rattle.codes.specs.Told.{Told, Reason, _when_, refused, done, refusal, answered}
 use Rattle.codes.specs.Reasons.{Clear, numbered}
 use Rattle.codes.specs.Judge.{judgeReasons, judged, pairIn}
 use Rattle.codes.specs.Rules.{Rules}

@@ -2,16 +2,15 @@
 --   Long, Known, Twice    the tests of refusals 5, 6 and 7
 --   Tested t              t is what the tests tell for every output with that room
 -- Assumes nothing.
-use mathlib.Core.Path.{_≡_, _∙_, refl, sym, ap}
+use mathlib.Core.Path.{_≡_, _∙_, sym, ap}
 use mathlib.Core.Bool.{Bool, true, false, _&&_, _||_}
 use mathlib.Core.List.{List}
-use Prim.Native.Nat.{ℕ, _<_, _≤_}
-use native.Mathlib.Omega.{arith}
+use Prim.Native.Nat.{ℕ, _<_}
 use borrow.Author.Tests.{eqb-true}
 use lib.Dec.{eqb}
 use lib.ListN.{length, getD}
 use Rattle.field.specs.Tables.{tables}
-use Rattle.codes.specs.Told.{Told, refused, done, refusal, answered}
+use Rattle.codes.specs.Told.{Told, refused, done, answered}
 use Rattle.codes.specs.Judge.{judged, sayJudged, pairIn}
 use Rattle.codes.specs.Sizes.{alpha}
 use Rattle.codes.specs.Rules.{Rules}

@@ -16,9 +16,8 @@ use Rattle.field.specs.Tables.{tables, byTable}
 use Rattle.field.proofs.Laws.{by-tables}
 use Rattle.algebra.specs.Symbol.{F, symbol, _⊕_, _⊗_, 𝟘}
 use Rattle.algebra.specs.Sums.{Vec, Grid, sum, dot, unit, pick}
-use Rattle.algebra.specs.Poly.{interp}
 use Rattle.algebra.specs.Bytes.{at, table}
-use Rattle.algebra.proofs.Ring.{ring, add-val, mul-val, pow-val, val-symbol, val-add, symbol-val, symbol-mul, mul-comm}
+use Rattle.algebra.proofs.Ring.{ring, mul-val, pow-val, val-symbol, val-add, symbol-val, symbol-mul, mul-comm}
 use Rattle.algebra.proofs.Sums.{pick-lt, pick-ge, sum-same, dot-same, dot-add, dot-mul}
 use Rattle.algebra.proofs.Poly.{interp-past}
 use Rattle.algebra.proofs.Bytes.{table-length, table-same, at-table, sum-next}

@@ -4,11 +4,11 @@
 use codes::Node;
 use codes::Refusal;
 
-mod judging;
-mod places;
-mod slips;
-mod totals;
-mod writing;
+mod judging; // judging.rt: a share file judged, record by record
+mod places; // places.rt: where the stripe total, the count and each D record stand
+mod slips; // slips.rt: a slip taken
+mod totals; // totals.rt: stripe totals, and a code judged together with one
+mod writing; // writing.rt: C, N, D and H records as bytes
 
 pub use judging::code_in;
 pub use judging::is_node;

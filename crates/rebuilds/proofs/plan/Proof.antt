@@ -1,4 +1,4 @@
--- The plan is the solutions at the helpers' points, folded.
+-- `rebuilds::plan` meets its contract: the plan is the solutions at the helpers' points, folded; where d is more than 31 it is zeros.
 use mathlib.Core.Path.{_∙_, ap}
 use mathlib.Core.List.{List}
 use Prim.Native.Nat.{ℕ}

@@ -1,4 +1,4 @@
--- A refusal of the tests is handed on and nothing is written; else the plan of the helpers is applied.
+-- `rebuilds::rebuild` meets its contract: a refusal of the tests is handed on and nothing is written; else the plan of the helpers is applied.
 use mathlib.Core.Path.{_∙_, refl, ap₂}
 use mathlib.Core.List.{List}
 use Prim.Native.Nat.{ℕ}

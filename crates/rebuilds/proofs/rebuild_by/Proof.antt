@@ -1,5 +1,5 @@
--- The loop's invariant: the places passed hold the weighed sums.
-use mathlib.Core.Path.{_≡_, _∙_, refl, sym}
+-- `rebuilds::rebuild_by` meets its contract: before turn j, j bytes of the output are the weighed sums. Where there are more than 31 symbols or bytes, nothing is written.
+use mathlib.Core.Path.{_∙_, refl, sym}
 use Prim.Native.Nat.{_-_, _≤_}
 use native.Mathlib.Omega.{arith}
 use borrow.Author.Needs.{needs}

@@ -1,7 +1,6 @@
 -- `turn` is safe: the answers' bytes lie within their run.
 -- Assumes nothing.
-use mathlib.Core.Path.{_≡_, sym}
-use native.Mathlib.Omega.{arith}
+use mathlib.Core.Path.{sym}
 use lib.Seq.{length-take-le}
 use borrow.Author.Needs.{needs}
 use Rattle.slips.proofs.turn.Statement.{statement}

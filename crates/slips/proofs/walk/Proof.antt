@@ -1,7 +1,6 @@
 -- `walk` is safe and ends. The measure is the number of turns that are left; the file keeps its length.
 -- Assumes nothing.
 use mathlib.Core.Path.{_≡_}
-use native.Mathlib.Omega.{arith}
 use lib.ListN.{length}
 use borrow.Author.Needs.{needs}
 use Rattle.slips.proofs.walk.Statement.{statement}

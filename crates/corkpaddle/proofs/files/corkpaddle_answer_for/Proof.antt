@@ -1,4 +1,4 @@
--- The answer for a failed node, as it crosses, says what is told, and the output is left as the proved function leaves it.
+-- `corkpaddle::files::corkpaddle_answer_for` meets its contract: the answer for a failed node, as it crosses, says what is told, and the output is left as `books::answer_for` leaves it.
 use Rattle.corkpaddle.proofs.Coded.{says}
 use borrow.Author.Needs.{needs}
 use Rattle.corkpaddle.proofs.files.corkpaddle_answer_for.Statement.{statement}

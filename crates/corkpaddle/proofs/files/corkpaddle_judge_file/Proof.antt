@@ -1,4 +1,4 @@
--- The judge's answer, as it crosses, says what the judge tells.
+-- `corkpaddle::files::corkpaddle_judge_file` meets its contract: the judge's answer, as it crosses, says what the judge of share files tells.
 use Rattle.shares.specs.File.{fileTold}
 use Rattle.corkpaddle.proofs.Coded.{says}
 use borrow.Author.Needs.{needs}

@@ -1,4 +1,4 @@
--- The answer to a slip, as it crosses, says what is told, and the file is left as the proved function leaves it.
+-- `corkpaddle::files::corkpaddle_take_slip` meets its contract: the answer to a slip, as it crosses, says what is told, and the file is left as `shares::take_slip` leaves it.
 use Rattle.corkpaddle.proofs.Coded.{says}
 use borrow.Author.Needs.{needs}
 use Rattle.corkpaddle.proofs.files.corkpaddle_take_slip.Statement.{statement}

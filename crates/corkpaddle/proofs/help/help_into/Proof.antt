@@ -1,7 +1,7 @@
--- The tests of the code are the reasons of the definition, in their order; the symbol is written only after the last.
-use mathlib.Core.Path.{_≡_, _∙_, sym, ap}
+-- `corkpaddle::help::help_into` meets its contract: its tests are the reasons of the definition, in their order; the symbol is written only after the last.
+use mathlib.Core.Path.{_∙_, sym, ap}
 use Rattle.codes.specs.Told.{done}
-use Rattle.codes.specs.Judge.{judged, sayJudged}
+use Rattle.codes.specs.Judge.{sayJudged}
 use Rattle.codes.specs.declared.Refusal.the-variants.{Length}
 use Rattle.stripes.specs.Help.{sayHelped}
 use Rattle.corkpaddle.proofs.Helping.{unchanged, no-code, no-room, no-help, helps}

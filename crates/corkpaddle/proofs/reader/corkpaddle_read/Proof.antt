@@ -1,4 +1,4 @@
--- The record that crosses shows what was read, in both cases.
+-- `corkpaddle::reader::corkpaddle_read` meets its contract: the record that crosses shows what was read, be it a body or a refusal.
 use mathlib.Core.Path.{refl, sym, _∙_}
 use Rattle.corkpaddle.proofs.Shown.{shows}
 use borrow.Author.Needs.{needs}

@@ -1,4 +1,4 @@
--- A code run of another length is refused, and any other goes on to the helper's answer.
+-- `corkpaddle::stripe::corkpaddle_help` meets its contract: a code run of another length is refused; any other goes on to `help_into`, which tells no count and leaves the helper's symbol.
 use mathlib.Core.Path.{_∙_, refl, sym}
 use borrow.Author.Tests.{not-true, not-false}
 use Rattle.codes.specs.declared.Code.{Code}

@@ -1,4 +1,4 @@
--- A run of another length is refused, and any other is told as the judge tells it.
+-- `corkpaddle::stripe::corkpaddle_judge` meets its contract: a run of another length is refused, and any other is told as `codes::judge` tells it.
 use mathlib.Core.Path.{_∙_, sym, ap}
 use borrow.Author.Tests.{not-true, not-false}
 use Rattle.codes.specs.Judge.{judged}

@@ -1,4 +1,4 @@
--- A code run of another length is refused for it or for the stripe total, and any other goes on to the proved function.
+-- `corkpaddle::wholes::corkpaddle_cut` meets its contract: a code run of another length is refused for it or for the stripe total; any other goes on to `books::cut`, which tells no count and leaves the fresh share file.
 use mathlib.Core.Path.{_∙_, sym}
 use borrow.Author.Tests.{not-true, not-false}
 use Rattle.codes.specs.declared.Code.{Code}

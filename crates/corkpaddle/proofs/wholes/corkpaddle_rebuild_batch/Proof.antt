@@ -1,4 +1,4 @@
--- A code run of another length is refused, and any other goes on to the proved function.
+-- `corkpaddle::wholes::corkpaddle_rebuild_batch` meets its contract: a code run of another length is refused; any other goes on to `batches::rebuild_batch`, which tells the helpers' count and leaves the D record.
 use mathlib.Core.Path.{_∙_, sym}
 use borrow.Author.Tests.{not-true, not-false}
 use Rattle.codes.specs.declared.Code.{Code}

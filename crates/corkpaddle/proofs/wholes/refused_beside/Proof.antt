@@ -1,4 +1,4 @@
--- The total is tested first, and each answer is the misfit of its case.
+-- `corkpaddle::wholes::refused_beside` meets its contract: the total is tested first, and each answer is the misfit of its case.
 use mathlib.Core.Path.{_∙_, sym}
 use borrow.Author.Tests.{not-true, not-false}
 use Rattle.corkpaddle.proofs.Misfits.{off-total, in-total}

@@ -1,4 +1,4 @@
--- Each test of the code is a part of the definition's.
+-- `rebuilds::inputs::are_long` meets its contract: its four tests are the definition's: the length of each list against d, and the room against alpha.
 use mathlib.Core.Path.{ap}
 use borrow.Author.Tests.{eq-eqb, ne-eqb}
 use borrow.Author.Needs.{needs}

@@ -1,4 +1,4 @@
--- Each test of the code is a part of the definition's.
+-- `rebuilds::inputs::are_nodes` meets its contract: a failed node outside 1..n makes the definition's test false; else the helpers decide.
 use mathlib.Core.Path.{_∙_, sym, ap}
 use mathlib.Core.Bool.{Bool, _&&_}
 use borrow.Author.Tests.{not-true, not-false}

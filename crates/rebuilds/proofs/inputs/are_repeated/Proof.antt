@@ -1,4 +1,4 @@
--- Each test of the code is a part of the definition's.
+-- `rebuilds::inputs::are_repeated` meets its contract: a failed node among its helpers makes the definition's test true; else the helpers decide.
 use mathlib.Core.Path.{_∙_, sym, ap}
 use mathlib.Core.Bool.{Bool, _||_}
 use borrow.Author.Needs.{needs}

@@ -1,4 +1,4 @@
--- The answer is that of the first test that fails.
+-- `rebuilds::inputs::judge_rebuild` meets its contract: the tests stand in the order of the refusals, and the answer is that of the first test that fails.
 use mathlib.Core.Path.{_∙_, sym}
 use borrow.Author.Tests.{not-true, not-false}
 use borrow.Author.Needs.{needs}

@@ -1,4 +1,4 @@
--- Past its end a list has node 0.
+-- `rebuilds::points::node_at` meets its contract: past its end a list has node 0.
 use mathlib.Core.Path.{sym}
 use borrow.Author.Needs.{needs}
 use lib.ListN.{List·getD-eq-default}

@@ -1,4 +1,4 @@
--- A node past the last place reads past the end of the list of points.
+-- `rebuilds::points::point_of` meets its contract: node 0 reads the first place, and a node past the last place reads past the end of the points, where a point is 0.
 use mathlib.Core.Path.{_≡_, ap, sym}
 use Prim.Native.Nat.{ℕ}
 use native.Mathlib.Omega.{arith}

@@ -1,6 +1,6 @@
--- The loop's invariant: the places passed hold their nodes' points.
+-- `rebuilds::points::points_of` meets its contract: before turn i, i places hold their nodes' points.
 use mathlib.Core.Path.{_≡_, _∙_, refl, sym, ap}
-use Prim.Native.Nat.{ℕ, _+_, _-_, _≤_, _<_}
+use Prim.Native.Nat.{ℕ, _-_, _≤_, _<_}
 use native.Mathlib.Omega.{arith}
 use borrow.Author.Needs.{needs}
 use Rattle.algebra.specs.Symbol.{symbol}

@@ -1,4 +1,4 @@
--- An entry past the end of the row is 0.
+-- `rebuilds::weigh::entry_on` meets its contract: an entry past the end of the row is 0.
 use mathlib.Core.Path.{_≡_, sym}
 use native.Mathlib.Omega.{arith}
 use borrow.Author.Needs.{needs}

@@ -1,4 +1,4 @@
--- Kind 1 has no factor; kind 2 has a power of the failed node's point.
+-- `rebuilds::weigh::factor_of` meets its contract: kind 1 has the factor 0; kind 2 has lambda, the power alpha of the failed node's point.
 use borrow.Author.Needs.{needs}
 use Rattle.rebuilds.proofs.Weighing.{factor-none, factor-power}
 use Rattle.rebuilds.proofs.weigh.factor_of.Statement.{statement}

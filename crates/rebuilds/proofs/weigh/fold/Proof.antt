@@ -1,4 +1,4 @@
--- The loop's invariant: the rows passed are folded, and the others zero.
+-- `rebuilds::weigh::fold` meets its contract: before turn u, u rows are folded and the others are zero.
 use mathlib.Core.Path.{_≡_, _∙_, ap}
 use mathlib.Core.List.{List}
 use Prim.Native.Nat.{ℕ, _-_, _≤_}

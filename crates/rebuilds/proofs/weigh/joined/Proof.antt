@@ -1,4 +1,4 @@
--- `joined` meets its contract, by the law of one weight.
+-- `rebuilds::weigh::joined` meets its contract: the lent table is the right one and gives the field's product, and the sum is exclusive or.
 use native.Mathlib.Omega.{arith}
 use borrow.Author.Needs.{needs}
 use Rattle.rebuilds.proofs.Weighing.{joined-val}

@@ -1,10 +1,10 @@
--- The loop's invariant: the sum of the terms passed.
-use mathlib.Core.Path.{_≡_, _∙_, sym, ap}
-use Prim.Native.Nat.{ℕ, _+_, _-_, _≤_, _<_}
+-- `rebuilds::weigh::weighed` meets its contract: before turn i the sum is that of i symbols times their weights.
+use mathlib.Core.Path.{_≡_, _∙_}
+use Prim.Native.Nat.{_-_, _≤_}
 use native.Mathlib.Omega.{arith}
 use borrow.Author.Needs.{needs}
 use lib.ListN.{length}
-use Rattle.algebra.proofs.Bytes.{sum-none, sum-next}
+use Rattle.algebra.proofs.Bytes.{sum-none}
 use Rattle.rebuilds.proofs.Weighing.{weighedTo, weighed-next, weighed-whole}
 use Rattle.rebuilds.proofs.weigh.weighed.Statement.{statement}
 use Rattle.rebuilds.proofs.weigh.weighed.Tie as tie

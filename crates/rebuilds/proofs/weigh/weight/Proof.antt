@@ -1,4 +1,4 @@
--- Past a the weight is zero, and below it the two entries joined.
+-- `rebuilds::weigh::weight` meets its contract: from place a on a weight is zero, and before it the two entries are joined.
 use mathlib.Core.Path.{_∙_, sym, ap}
 use Prim.Native.Nat.{ℕ}
 use borrow.Author.Needs.{needs}

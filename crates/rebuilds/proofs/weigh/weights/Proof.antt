@@ -1,6 +1,6 @@
--- The loop's invariant: the places passed hold their weights.
+-- `rebuilds::weigh::weights` meets its contract: before turn j, j places hold their weights.
 use mathlib.Core.Path.{refl}
-use Prim.Native.Nat.{ℕ, _+_, _-_, _≤_, _<_}
+use Prim.Native.Nat.{_-_, _≤_}
 use borrow.Author.Needs.{needs}
 use Rattle.algebra.specs.Symbol.{symbol}
 use Rattle.algebra.specs.Bytes.{at}
