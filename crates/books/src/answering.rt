@@ -2,7 +2,7 @@
 use codes::Code;
 use codes::Node;
 use codes::Refusal;
-use field::Symbol;
+use field::tables;
 use records::writing::put;
 use shares::Filed;
 use shares::code_in;
@@ -11,34 +11,50 @@ use shares::is_node;
 use shares::judge_file;
 use shares::stripe_at;
 use stripes::Encoded;
-use stripes::Helped;
-use stripes::help;
+use stripes::help_by;
+use stripes::row;
 ghost use mathlib.Core.Path.{_≡_};
-ghost use mathlib.Core.Bool.{true};
 ghost use Prim.Native.Nat.{_+_, _*_, _≤_, _<_};
 ghost use lib.ListN.{length};
 ghost use Rattle.codes.specs.Rules.{Rules};
-ghost use Rattle.codes.specs.Sizes.{alpha};
-ghost use Rattle.codes.specs.Share.{symbolFor};
+ghost use Rattle.field.specs.Tables.{tables};
 ghost use Rattle.stripes.specs.Encode.{sayEncoded};
-ghost use Rattle.stripes.specs.Lists.{within};
+ghost use Rattle.stripes.specs.Lent.{rowBytes};
 ghost use Rattle.shares.specs.Fields.{codeIn, nodeIn, stripesIn, countIn, stripeAt, part};
 ghost use Rattle.shares.specs.File.{sayFiled};
 ghost use Rattle.books.specs.Answer.{answersFrom, answerTold, answerLeaves};
 
-// The symbol of one share of an accepted code.
-fn symbol_of(code: Code, helper: Node, failed: Node, share: &[u8]) -> Symbol
-    requires { ⌜ Rules code × (within code (helper .0) ≡ true) × (within code (failed .0) ≡ true) × (helper .0 ≡ failed .0 → ⊥) × (length (now share) ≡ alpha code) ⌝ }
-    ensures { λ r. ⌜ r .0 ≡ symbolFor code (failed .0) (now (share .entry)) .val ⌝ }
+// The H records of all stripes over an output of their length, by the failed node's row and the table of products.
+fn answers_by(
+    file: &[u8],
+    code: Code,
+    helper: Node,
+    failed: Node,
+    count: u32,
+    stripes: u16,
+    row: &[u8; 31],
+    t: &[u8; 768],
+    output: &mut [u8],
+)
+    requires { ⌜ Rules code × (length (now file) ≡ stripeAt stripes) × (length (now output) ≡ stripes * 10) × (code ≡ codeIn (now file)) × (helper .0 ≡ nodeIn (now file)) × (count ≡ countIn (now file)) × (now row ≡ rowBytes code (failed .0)) × (now t ≡ tables) ⌝ }
+    ensures { λ _. ⌜ now (output .exit) ≡ answersFrom (codeIn (now (file .entry))) (now (file .entry)) (failed .0) 0 stripes ⌝ }
 {
-    let answer = help(code, helper, failed, share);
-    if let Helped::Done(s) = answer {
-        return s;
+    let a = code.alpha();
+    let mut i: u16 = 0;
+    while i < stripes {
+        let start = stripe_at(i) + 3;
+        let end = start + a;
+        let symbol = help_by(row, t, &file[start..end]);
+        put(
+            output,
+            (i as usize) * 10,
+            &help_record(failed, helper, count, i, symbol),
+        );
+        i += 1;
     }
-    Symbol::ZERO
 }
 
-// The H records of all stripes over an output of their length.
+// The H records of all stripes. The row and the table are made once.
 fn write_answers(
     file: &[u8],
     code: Code,
@@ -48,22 +64,22 @@ fn write_answers(
     stripes: u16,
     output: &mut [u8],
 )
-    requires { ⌜ Rules code × (within code (helper .0) ≡ true) × (within code (failed .0) ≡ true) × (helper .0 ≡ failed .0 → ⊥) × (length (now file) ≡ stripeAt stripes) × (length (now output) ≡ stripes * 10) × (code ≡ codeIn (now file)) × (helper .0 ≡ nodeIn (now file)) × (count ≡ countIn (now file)) ⌝ }
+    requires { ⌜ Rules code × (length (now file) ≡ stripeAt stripes) × (length (now output) ≡ stripes * 10) × (code ≡ codeIn (now file)) × (helper .0 ≡ nodeIn (now file)) × (count ≡ countIn (now file)) ⌝ }
     ensures { λ _. ⌜ now (output .exit) ≡ answersFrom (codeIn (now (file .entry))) (now (file .entry)) (failed .0) 0 stripes ⌝ }
 {
-    let a = code.alpha();
-    let mut i: u16 = 0;
-    while i < stripes {
-        let start = stripe_at(i) + 3;
-        let end = start + a;
-        let symbol = symbol_of(code, helper, failed, &file[start..end]);
-        put(
-            output,
-            (i as usize) * 10,
-            &help_record(failed, helper, count, i, symbol),
-        );
-        i += 1;
-    }
+    let t = tables();
+    let powers = row(code, failed);
+    answers_by(
+        file,
+        code,
+        helper,
+        failed,
+        count,
+        stripes,
+        &powers,
+        &t,
+        output,
+    );
 }
 
 // A file's refusal, handed on.

@@ -3,6 +3,7 @@ use codes::Code;
 use codes::Judged;
 use codes::Node;
 use codes::Refusal;
+use field::tables;
 use records::writing::put;
 use shares::code_record;
 use shares::is_node;
@@ -11,7 +12,8 @@ use shares::node_record;
 use shares::stripe_at;
 use shares::stripe_record;
 use stripes::Encoded;
-use stripes::encode;
+use stripes::encode_by;
+use stripes::row;
 ghost use mathlib.Core.Path.{_≡_};
 ghost use mathlib.Core.List.{_++_};
 ghost use Prim.Native.Nat.{_*_, _≤_, _<_};
@@ -19,28 +21,35 @@ ghost use lib.ListN.{length, take, drop};
 ghost use Rattle.records.specs.Writing.{putAt};
 ghost use Rattle.codes.specs.Sizes.{bytes};
 ghost use Rattle.codes.specs.Rules.{Rules};
-ghost use Rattle.codes.specs.Share.{share};
+ghost use Rattle.field.specs.Tables.{tables};
 ghost use Rattle.stripes.specs.Encode.{sayEncoded};
-ghost use Rattle.stripes.specs.Lists.{within};
-ghost use mathlib.Core.Bool.{true};
+ghost use Rattle.stripes.specs.Lent.{rowBytes, lentShare};
 ghost use Rattle.shares.specs.Fields.{stripeAt, stripeRecord};
 ghost use Rattle.shares.specs.Afresh.{stripeOf, afresh};
 ghost use Rattle.books.specs.Cut.{cutTold, cutLeaves};
 
-// The D record of one stripe of an accepted code.
-fn stripe_of(code: Code, node: Node, i: u16, message: &[u8]) -> [u8; 34]
-    requires { ⌜ Rules code × (within code (node .0) ≡ true) × (length (now message) ≡ bytes code) ⌝ }
-    ensures { λ r. ⌜ r ≡ stripeRecord i (share code (node .0) (now (message .entry))) ⌝ }
+// The D record of one stripe of an accepted code, by a lent row and a lent table.
+fn stripe_of(code: Code, row: &[u8; 31], t: &[u8; 768], i: u16, message: &[u8]) -> [u8; 34]
+    requires { ⌜ Rules code × (length (now message) ≡ bytes code) ⌝ }
+    ensures { λ r. ⌜ r ≡ stripeRecord i (lentShare code (now (row .entry)) (now (t .entry)) (now (message .entry))) ⌝ }
 {
     let a = code.alpha();
     let mut symbols = [0u8; 31];
-    encode(code, node, message, &mut symbols[..a]);
+    encode_by(code, row, t, message, &mut symbols[..a]);
     stripe_record(i, &symbols[..a])
 }
 
-// The whole file over an output of its length.
-fn write_file(code: Code, node: Node, stripes: u16, book: &[u8], output: &mut [u8])
-    requires { ⌜ Rules code × (within code (node .0) ≡ true) × (stripes ≤ 1024) × (length (now book) ≡ stripes * bytes code) × (length (now output) ≡ stripeAt stripes) ⌝ }
+// The whole file over an output of its length, by the node's row and the table of products.
+fn write_by(
+    code: Code,
+    node: Node,
+    stripes: u16,
+    book: &[u8],
+    row: &[u8; 31],
+    t: &[u8; 768],
+    output: &mut [u8],
+)
+    requires { ⌜ Rules code × (stripes ≤ 1024) × (length (now book) ≡ stripes * bytes code) × (length (now output) ≡ stripeAt stripes) × (now row ≡ rowBytes code (node .0)) × (now t ≡ tables) ⌝ }
     ensures { λ _. ⌜ now (output .exit) ≡ afresh code (node .0) stripes 0 (now (book .entry)) ⌝ }
 {
     put(output, 0, &code_record(code));
@@ -51,9 +60,19 @@ fn write_file(code: Code, node: Node, stripes: u16, book: &[u8], output: &mut [u
         let start = (i as usize) * b;
         let end = start + b;
         let message = &book[start..end];
-        put(output, stripe_at(i), &stripe_of(code, node, i, message));
+        put(output, stripe_at(i), &stripe_of(code, row, t, i, message));
         i += 1;
     }
+}
+
+// The whole file. The row and the table are made once.
+fn write_file(code: Code, node: Node, stripes: u16, book: &[u8], output: &mut [u8])
+    requires { ⌜ Rules code × (stripes ≤ 1024) × (length (now book) ≡ stripes * bytes code) × (length (now output) ≡ stripeAt stripes) ⌝ }
+    ensures { λ _. ⌜ now (output .exit) ≡ afresh code (node .0) stripes 0 (now (book .entry)) ⌝ }
+{
+    let t = tables();
+    let powers = row(code, node);
+    write_by(code, node, stripes, book, &powers, &t, output);
 }
 
 // Cuts a book: writes the node's fresh share file of it.

@@ -14,8 +14,8 @@ mod points; // points.rt: the first offending pair of points, and unused points
 
 pub use body::code_at;
 pub use cells::Cell;
-use limits::is_known;
-use limits::is_sized;
+pub use limits::is_known;
+pub use limits::is_sized;
 use limits::less;
 use points::judge_points;
 use points::marks_of;

@@ -30,59 +30,55 @@ fn raised(a: u8, x: u8, b: u8, t: &[u8; 768]) -> u8
 }
 
 // Round u of the forward pass.
-fn forward_round(mut a: [u8; 31], xs: [u8; 31], s: usize, u: usize, t: &[u8; 768]) -> [u8; 31]
+fn forward_round(a: &mut [u8; 31], xs: &[u8; 31], s: usize, u: usize, t: &[u8; 768])
     requires { ⌜ (now t ≡ tables) × (s ≤ 31) × (u < s) ⌝ }
-    ensures { λ r. ⌜ Moves s (Forward s u (at xs)) (Forward s (u + 1) (at xs)) a r ⌝ }
+    ensures { λ _. ⌜ Moves s (Forward s u (at (now (xs .entry)))) (Forward s (u + 1) (at (now (xs .entry)))) (now (a .entry)) (now (a .exit)) ⌝ }
 {
     for i in u + 1..s {
         a[i] = slope(a[i], a[u], xs[i], xs[u], t);
     }
-    a
 }
 
-fn forward(mut a: [u8; 31], xs: [u8; 31], s: usize, t: &[u8; 768]) -> [u8; 31]
+fn forward(a: &mut [u8; 31], xs: &[u8; 31], s: usize, t: &[u8; 768])
     requires { ⌜ (now t ≡ tables) × (s ≤ 31) ⌝ }
-    ensures { λ r. ⌜ Moves s (Forward s 0 (at xs)) (Forward s s (at xs)) a r ⌝ }
+    ensures { λ _. ⌜ Moves s (Forward s 0 (at (now (xs .entry)))) (Forward s s (at (now (xs .entry)))) (now (a .entry)) (now (a .exit)) ⌝ }
 {
     for u in 0..s {
-        let next = forward_round(a, xs, s, u, t);
-        a = next;
+        forward_round(a, xs, s, u, t);
     }
-    a
 }
 
 // Round u of the backward pass.
-fn backward_round(mut a: [u8; 31], xs: [u8; 31], s: usize, u: usize, t: &[u8; 768]) -> [u8; 31]
+fn backward_round(a: &mut [u8; 31], xs: &[u8; 31], s: usize, u: usize, t: &[u8; 768])
     requires { ⌜ (now t ≡ tables) × (s ≤ 31) × (u < s) ⌝ }
-    ensures { λ r. ⌜ Moves s (Backward s (u + 1) (at xs)) (Backward s u (at xs)) a r ⌝ }
+    ensures { λ _. ⌜ Moves s (Backward s (u + 1) (at (now (xs .entry)))) (Backward s u (at (now (xs .entry)))) (now (a .entry)) (now (a .exit)) ⌝ }
 {
     for i in u..s - 1 {
         a[i] = raised(a[i], xs[u], a[i + 1], t);
     }
-    a
 }
 
-fn backward(mut a: [u8; 31], xs: [u8; 31], s: usize, t: &[u8; 768]) -> [u8; 31]
+fn backward(a: &mut [u8; 31], xs: &[u8; 31], s: usize, t: &[u8; 768])
     requires { ⌜ (now t ≡ tables) × (s ≤ 31) ⌝ }
-    ensures { λ r. ⌜ Moves s (Backward s s (at xs)) (Backward s 0 (at xs)) a r ⌝ }
+    ensures { λ _. ⌜ Moves s (Backward s s (at (now (xs .entry)))) (Backward s 0 (at (now (xs .entry)))) (now (a .entry)) (now (a .exit)) ⌝ }
 {
     let mut u = s;
     while u > 0 {
         u -= 1;
-        let next = backward_round(a, xs, s, u, t);
-        a = next;
+        backward_round(a, xs, s, u, t);
     }
-    a
 }
 
 // The solution for 1 at point u and 0 at the others.
-fn solution(xs: [u8; 31], s: usize, u: usize, t: &[u8; 768]) -> [u8; 31]
+fn solution(xs: &[u8; 31], s: usize, u: usize, t: &[u8; 768]) -> [u8; 31]
     requires { ⌜ (now t ≡ tables) × (s ≤ 31) × (u < s) ⌝ }
-    ensures { λ r. ⌜ r ≡ table 31 (interp s (at xs) (unit u)) ⌝ }
+    ensures { λ r. ⌜ r ≡ table 31 (interp s (at (now (xs .entry))) (unit u)) ⌝ }
 {
     let mut ys = [0u8; 31];
     ys[u] = 1;
-    backward(forward(ys, xs, s, t), xs, s, t)
+    forward(&mut ys, xs, s, t);
+    backward(&mut ys, xs, s, t);
+    ys
 }
 
 // The solutions for the unit vectors: row u, cut to s entries, solves for 1 at point u and 0 at the others.
@@ -95,7 +91,7 @@ pub fn basis(xs: [u8; 31], s: usize) -> [[u8; 31]; 31]
     }
     let t = field::tables();
     for u in 0..s {
-        rows[u] = solution(xs, s, u, &t);
+        rows[u] = solution(&xs, s, u, &t);
     }
     rows
 }

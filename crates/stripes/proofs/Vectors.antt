@@ -1,7 +1,6 @@
 -- Arrays as vectors: what a turn of a loop that fills one, or goes on to the next power, leaves.
 --   symbol-zero              the symbol of the number 0
 --   pow-none, pow-next       the powers of a point in an accumulator
---   agrees-symbols           an array that holds the numbers of a vector is that vector
 --   agrees-store             an array filled from the front, one store a turn
 -- Assumes nothing.
 use mathlib.Core.Path.{_≡_, _∙_, refl, sym, ap}
@@ -15,10 +14,10 @@ use lib.Seq.{getD-set-same, getD-set-other}
 use Rattle.field.specs.Field.{mul}
 use Rattle.field.specs.declared.Symbol.{Symbol}
 use Rattle.algebra.specs.Symbol.{F, symbol, _⊗_, 𝟘, 𝟙, pow}
-use Rattle.algebra.specs.Sums.{Vec, Same}
+use Rattle.algebra.specs.Sums.{Vec}
 use Rattle.algebra.proofs.Ring.{F-path, symbol-val, mul-val, pow-suc}
 use Rattle.codes.specs.Sizes.{none}
-use Rattle.stripes.specs.Arrays.{symbolAt, Agrees}
+use Rattle.stripes.specs.Arrays.{Agrees}
 
 pub symbol-zero : symbol 0 ≡ 𝟘
 unfolding symbol 𝟘
@@ -32,9 +31,6 @@ pub pow-next : (x p i : ℕ) → p ≡ pow (symbol x) i .val → mul x p ≡ pow
 pow-next x p i e =
     mul-val x p ∙ ap (λ (q : F). (symbol x ⊗ q) .val) (ap symbol e ∙ symbol-val (pow (symbol x) i)) ∙ ap (λ (q : F). q .val) (pow-suc (symbol x) i)
     ∙ ap (λ (n : ℕ). pow (symbol x) n .val) (sym (add-one i))
-
-pub agrees-symbols : (n : ℕ) (w : List Symbol) (f : Vec) → Agrees n w f → Same n (symbolAt w) f
-agrees-symbols n w f h i l = ap symbol (h i l) ∙ symbol-val (f i)
 
 pub agrees-store : (n : ℕ) (w : List Symbol) (f : Vec) (v : Symbol) → n < length w → Agrees n w f → v .0 ≡ f n .val → Agrees (n + 1) (set w n v) f
 agrees-store n w f v h a e =

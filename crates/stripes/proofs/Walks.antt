@@ -2,20 +2,16 @@
 --   drop-next                         the list from a place on is what stands there, and the list from the next place on
 --   every-.., has-.., repeats-..      here: what stands there decides; next: it does not; end: nothing is left
 --   differ-start                      all numbers are equal where each of the others equals the first
---   within-range                      the numbers of the nodes
 -- Assumes nothing.
 use mathlib.Core.Path.{_≡_, refl}
 use mathlib.Core.Bool.{Bool, true, false, not}
 use mathlib.Core.List.{List, [], _∷_}
 use Prim.Native.Nat.{ℕ, _+_, _<_, _≤_}
 use native.Mathlib.Numerals.{add-one}
-use borrow.Author.Tests.{leb-true}
-use lib.Dec.{eqb, leb}
+use lib.Dec.{eqb}
 use lib.ListN.{length, drop, getD, drop-of-length-le}
 use lib.Seq.{drop-cons}
-use Rattle.codes.specs.declared.Code.{Code}
-use Rattle.codes.proofs.Bools.{and-left, and-right}
-use Rattle.stripes.specs.Lists.{every, has, repeats, differ, within}
+use Rattle.stripes.specs.Lists.{every, has, repeats, differ}
 
 pub drop-next : (xs : List ℕ) (i : ℕ) → i < length xs → drop i xs ≡ getD xs i 0 ∷ drop (i + 1) xs
 drop-next xs i h = rw (add-one, drop-cons xs i 0)
@@ -64,7 +60,3 @@ pub differ-start : (xs : List ℕ) → differ xs ≡ not (every (eqb (getD xs 0 
 unfolding differ every
 differ-start [] = refl
 differ-start (x ∷ xs) = refl
-
-pub within-range : (c : Code) (v : ℕ) → within c v ≡ true → (1 ≤ v) × (v ≤ c .n)
-within-range c v e =
-    (leb-true 1 v (and-left (leb 1 v) (leb v (c .n)) e), leb-true v (c .n) (and-right (leb 1 v) (leb v (c .n)) e))

@@ -5,7 +5,7 @@ ghost use Prim.Native.Nat.{_+_, _*_, _-_, _≤_, _<_};
 ghost use Rattle.codes.specs.Sizes.{alpha};
 ghost use Rattle.codes.specs.Places.{start, triangle};
 ghost use Rattle.codes.specs.Matrix.{mbr, msr, matrix};
-ghost use Rattle.codes.specs.Rules.{Rules};
+ghost use Rattle.codes.specs.Rules.{Known, Sized};
 ghost use Rattle.stripes.specs.Arrays.{Placed};
 
 // Where row i of a triangle of w rows begins.
@@ -63,7 +63,7 @@ fn msr_place(k: usize, i: usize, j: usize) -> usize
 
 // The place in the message of the matrix's entry in row i and column j; 496 where no symbol stands there.
 pub fn place_of(code: Code, i: usize, j: usize) -> usize
-    requires { ⌜ Rules code × (i < code .d) × (j < alpha code) ⌝ }
+    requires { ⌜ Known (code .kind) × Sized code × (i < code .d) × (j < alpha code) ⌝ }
     ensures { λ r. ⌜ Placed (λ f. matrix code f i j) r ⌝ }
 {
     if code.kind == 1 {

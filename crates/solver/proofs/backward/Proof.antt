@@ -29,7 +29,7 @@ loop-less c = search needs
 
 loop-again : tie.Need-loop-again Inv-loop μ-loop
 loop-again c =
-    let l = c .before .before .loop in
+    let l = c .before .before .before .loop in
     let next : l .u ≡ l .u - 1 + 1 = omega arith in
     (search needs, λ ys r. c .backward-round .ensures ys (rw next at (l .inv .1 ys r)))
 

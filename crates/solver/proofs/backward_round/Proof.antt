@@ -21,10 +21,10 @@ store : (s u i : ℕ) (xs a : List ℕ) (ys : Vec) → Row s (BackwardTo s u i (
 store s u i xs a ys r h k l v e = row-store r i _ e (omega arith) l (λ B n o m. backward-store (at xs) ys u m h k B n o)
 
 abbrev Inv-loop : tie.InvT-loop
-Inv-loop s u t a₀ xs i₀ i-end a i = (u ≤ i) × (i + 1 ≤ s) × Moves s (Backward s (u + 1) (at xs)) (BackwardTo s u i (at xs)) a₀ a
+Inv-loop a₀ xs s u t i₀ i-end a i = (u ≤ i) × (i + 1 ≤ s) × Moves s (Backward s (u + 1) (at xs)) (BackwardTo s u i (at xs)) a₀ a
 
 abbrev μ-loop : tie.MeasureT-loop
-μ-loop s u t a₀ xs i₀ i-end a i = s - i
+μ-loop a₀ xs s u t i₀ i-end a i = s - i
 
 sub-i-end : tie.Need-sub-i-end Inv-loop μ-loop
 sub-i-end c = search needs
@@ -32,23 +32,23 @@ sub-i-end c = search needs
 loop-holds : tie.Need-loop-holds Inv-loop μ-loop
 loop-holds c = (search needs, search needs, λ ys r. row-then r (backward-open _ ys _))
 
-array-read-raised : tie.Need-array-read-raised Inv-loop μ-loop
-array-read-raised c = search needs
+element-copy-out-raised : tie.Need-element-copy-out-raised Inv-loop μ-loop
+element-copy-out-raised c = search needs
 
-array-read-raised-2 : tie.Need-array-read-raised-2 Inv-loop μ-loop
-array-read-raised-2 c = search needs
+element-copy-out-raised-2 : tie.Need-element-copy-out-raised-2 Inv-loop μ-loop
+element-copy-out-raised-2 c = search needs
 
 add-raised : tie.Need-add-raised Inv-loop μ-loop
 add-raised c = search needs
 
-array-read-raised-3 : tie.Need-array-read-raised-3 Inv-loop μ-loop
-array-read-raised-3 c = search needs
+element-copy-out-raised-3 : tie.Need-element-copy-out-raised-3 Inv-loop μ-loop
+element-copy-out-raised-3 c = search needs
 
 raised-requires : tie.Need-raised-requires Inv-loop μ-loop
 raised-requires c κs = search needs
 
-array-write-a : tie.Need-array-write-a Inv-loop μ-loop
-array-write-a c = search needs
+element-write-a : tie.Need-element-write-a Inv-loop μ-loop
+element-write-a c = search needs
 
 add-i : tie.Need-add-i Inv-loop μ-loop
 add-i c = search needs
@@ -58,8 +58,9 @@ loop-less c = search needs
 
 loop-again : tie.Need-loop-again Inv-loop μ-loop
 loop-again c =
-    let l = c .before .before .loop in
-    let xs = c .before .before .before .args .t2 in
+    let o = c .before .before .before .before .before in
+    let l = o .loop in
+    let xs = o .before .args .xs .now in
     (search needs, search needs, λ ys r. store _ _ (l .i) xs (l .a) ys (l .inv .2 ys r) (l .inv .0) (search needs) (search needs) _ (c .raised .ensures))
 
 returns : tie.Need-returns Inv-loop μ-loop
@@ -75,12 +76,12 @@ backward-round-spec =
     μ-loop
     sub-i-end
     loop-holds
-    array-read-raised
-    array-read-raised-2
+    element-copy-out-raised
+    element-copy-out-raised-2
     add-raised
-    array-read-raised-3
+    element-copy-out-raised-3
     raised-requires
-    array-write-a
+    element-write-a
     add-i
     loop-less
     loop-again

@@ -11,10 +11,10 @@ use Rattle.solver.proofs.basis.Statement.{statement}
 use Rattle.solver.proofs.basis.Tie as tie
 
 abbrev Inv-loop : tie.InvT-loop
-Inv-loop xs s rows₀ t u₀ rows u = (u ≤ s) × (s ≤ 31) × (t ≡ tables) × (rows ≡ rowsOf 31 31 (basisAt xs s u))
+Inv-loop s xs rows₀ t u₀ rows u = (u ≤ s) × (s ≤ 31) × (t ≡ tables) × (rows ≡ rowsOf 31 31 (basisAt xs s u))
 
 abbrev μ-loop : tie.MeasureT-loop
-μ-loop xs s rows₀ t u₀ rows u = s - u
+μ-loop s xs rows₀ t u₀ rows u = s - u
 
 returns : tie.Need-returns Inv-loop μ-loop
 returns c = basis-refused _ _ (search needs)
@@ -42,16 +42,16 @@ loop-less c = search needs
 
 loop-again : tie.Need-loop-again Inv-loop μ-loop
 loop-again c =
-    let l = c .before .before .before .loop in
-    let a = c .before .before .before .before .before .before .args in
-    (search needs, search needs, search needs, cc (basis-more (a .xs) (a .s) (l .u) (search needs)))
+    let l = c .before .before .before .before .loop in
+    let a = c .before .before .before .before .before .before .before .args in
+    (search needs, search needs, search needs, cc (basis-more (a .t1) (a .s) (l .u) (search needs)))
 
 returns-2 : tie.Need-returns-2 Inv-loop μ-loop
 returns-2 c =
     let l = c .before .loop in
     let a = c .before .before .before .before .args in
     let end : l .u ≡ a .s = omega arith in
-    l .inv .3 ∙ ap (λ (u : ℕ). rowsOf 31 31 (basisAt (a .xs) (a .s) u)) end ∙ basis-all (a .xs) (a .s) (l .inv .1)
+    l .inv .3 ∙ ap (λ (u : ℕ). rowsOf 31 31 (basisAt (a .t1) (a .s) u)) end ∙ basis-all (a .t1) (a .s) (l .inv .1)
 
 pub basis-spec : {M : Type 1} → statement M
 basis-spec =

@@ -28,7 +28,7 @@ loop-less : tie.Need-loop-less Inv-loop μ-loop
 loop-less c = search needs
 
 loop-again : tie.Need-loop-again Inv-loop μ-loop
-loop-again c = (search needs, λ ys r. c .forward-round .ensures ys (c .before .before .loop .inv .1 ys r))
+loop-again c = (search needs, λ ys r. c .forward-round .ensures ys (c .before .before .before .loop .inv .1 ys r))
 
 returns : tie.Need-returns Inv-loop μ-loop
 returns c =

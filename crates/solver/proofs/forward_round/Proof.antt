@@ -21,10 +21,10 @@ store : (s u i : ℕ) (xs a : List ℕ) (ys : Vec) → Row s (ForwardTo s u i (a
 store s u i xs a ys r h k l v e = row-store r i _ e k l (λ B n o m. forward-store (at xs) ys u m h k B n o)
 
 abbrev Inv-loop : tie.InvT-loop
-Inv-loop s u t a₀ xs i₀ a i = (u < i) × (i ≤ s) × Moves s (Forward s u (at xs)) (ForwardTo s u i (at xs)) a₀ a
+Inv-loop a₀ xs s u t i₀ a i = (u < i) × (i ≤ s) × Moves s (Forward s u (at xs)) (ForwardTo s u i (at xs)) a₀ a
 
 abbrev μ-loop : tie.MeasureT-loop
-μ-loop s u t a₀ xs i₀ a i = s - i
+μ-loop a₀ xs s u t i₀ a i = s - i
 
 add-i : tie.Need-add-i Inv-loop μ-loop
 add-i c = search needs
@@ -32,23 +32,23 @@ add-i c = search needs
 loop-holds : tie.Need-loop-holds Inv-loop μ-loop
 loop-holds c = (search needs, search needs, λ ys r. row-then r (forward-open _ ys _))
 
-array-read-slope : tie.Need-array-read-slope Inv-loop μ-loop
-array-read-slope c = search needs
+element-copy-out-slope : tie.Need-element-copy-out-slope Inv-loop μ-loop
+element-copy-out-slope c = search needs
 
-array-read-slope-2 : tie.Need-array-read-slope-2 Inv-loop μ-loop
-array-read-slope-2 c = search needs
+element-copy-out-slope-2 : tie.Need-element-copy-out-slope-2 Inv-loop μ-loop
+element-copy-out-slope-2 c = search needs
 
-array-read-slope-3 : tie.Need-array-read-slope-3 Inv-loop μ-loop
-array-read-slope-3 c = search needs
+element-copy-out-slope-3 : tie.Need-element-copy-out-slope-3 Inv-loop μ-loop
+element-copy-out-slope-3 c = search needs
 
-array-read-slope-4 : tie.Need-array-read-slope-4 Inv-loop μ-loop
-array-read-slope-4 c = search needs
+element-copy-out-slope-4 : tie.Need-element-copy-out-slope-4 Inv-loop μ-loop
+element-copy-out-slope-4 c = search needs
 
 slope-requires : tie.Need-slope-requires Inv-loop μ-loop
 slope-requires c κs = search needs
 
-array-write-a : tie.Need-array-write-a Inv-loop μ-loop
-array-write-a c = search needs
+element-write-a : tie.Need-element-write-a Inv-loop μ-loop
+element-write-a c = search needs
 
 add-i-2 : tie.Need-add-i-2 Inv-loop μ-loop
 add-i-2 c = search needs
@@ -58,8 +58,9 @@ loop-less c = search needs
 
 loop-again : tie.Need-loop-again Inv-loop μ-loop
 loop-again c =
-    let l = c .before .before .loop in
-    let xs = c .before .before .before .args .t2 in
+    let o = c .before .before .before .before .before .before in
+    let l = o .loop in
+    let xs = o .before .args .xs .now in
     (search needs, search needs, λ ys r. store _ _ (l .i) xs (l .a) ys (l .inv .2 ys r) (l .inv .0) (search needs) (search needs) _ (c .slope .ensures))
 
 returns : tie.Need-returns Inv-loop μ-loop
@@ -76,12 +77,12 @@ forward-round-spec =
     μ-loop
     add-i
     loop-holds
-    array-read-slope
-    array-read-slope-2
-    array-read-slope-3
-    array-read-slope-4
+    element-copy-out-slope
+    element-copy-out-slope-2
+    element-copy-out-slope-3
+    element-copy-out-slope-4
     slope-requires
-    array-write-a
+    element-write-a
     add-i-2
     loop-less
     loop-again

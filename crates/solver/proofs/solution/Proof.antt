@@ -49,9 +49,9 @@ backward-requires c κs = search needs
 
 returns : tie.Need-returns
 returns c =
-    let s = c .before .before .args in
+    let s = c .before .before .before .before .args in
     end (s .s) _ (unit (s .u)) _ (c .backward .ensures (unit (s .u)) (row-then
-    (c .before .forward .ensures (unit (s .u)) (start (s .s) (s .u) _ (search needs) (search needs)))
+    (c .before .before .forward .ensures (unit (s .u)) (start (s .s) (s .u) _ (search needs) (search needs)))
     (turn _ (unit (s .u)))))
 
 pub solution-spec : {M : Type 1} → statement M

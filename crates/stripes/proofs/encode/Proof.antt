@@ -1,5 +1,5 @@
 -- The tests of the code are the reasons of the definition, in their order; a share is written only after the last.
-use mathlib.Core.Path.{_≡_, _∙_, sym, ap}
+use mathlib.Core.Path.{_≡_, _∙_, sym, ap, ap₂}
 use mathlib.Core.Bool.{true, false}
 use mathlib.Core.List.{List, [], _∷_}
 use Prim.Native.Nat.{ℕ}
@@ -13,11 +13,12 @@ use Rattle.codes.specs.Share.{share}
 use Rattle.codes.specs.declared.Code.{Code}
 use Rattle.codes.specs.declared.Refusal.{Refusal}
 use Rattle.codes.specs.declared.Refusal.the-variants.{Length, Node}
-use Rattle.codes.proofs.Rules.{rules}
-use Rattle.codes.proofs.Sizes.{bytes-high}
+use Rattle.codes.proofs.Rules.{rules, sizes}
+use Rattle.codes.proofs.Sizes.{d-high, bytes-high}
 use Rattle.stripes.specs.Lists.{within}
 use Rattle.stripes.specs.Encode.{encodeReasons, encoded, encodeLeaves}
-use Rattle.stripes.proofs.Walks.{within-range}
+use Rattle.stripes.specs.Lent.{lentShare}
+use Rattle.stripes.proofs.Lent.{node-row, share-row}
 use Rattle.stripes.proofs.Ladder.{judged-refused, judged-stop, judged-done, refused-leaves, done-leaves}
 use borrow.Author.Needs.{needs}
 use Rattle.stripes.proofs.encode.Statement.{statement}
@@ -113,14 +114,21 @@ returns-4 c =
     (no-node _ _ _ _ (good (l .before .before .before .before)) (message-fits (l .before .before)) (output-fits l)
     (sym (w .is-within .ensures) ∙ not-true _ (c .if3 .taken)))
 
-write-share-requires : tie.Need-write-share-requires
-write-share-requires c κs =
-    let w = c .before .before in
-    let l = w .before in
+tables-requires : tie.Need-tables-requires
+tables-requires c κs = search needs
+
+point-requires : tie.Need-point-requires
+point-requires c κs = search needs
+
+row-of-requires : tie.Need-row-of-requires
+row-of-requires c κs = search needs
+
+write-by-requires : tie.Need-write-by-requires
+write-by-requires c κs =
+    let n = c .before .before .before .before .before .before .before in
+    let l = n .before .before in
     let r = rules _ (sym (good (l .before .before .before .before))) in
-    let s = l .before .before .before .before .before .before .before .before .before in
-    let v = within-range (s .args .code) (s .args .node .0) (node-fits (c .before)) in
-    (r, v .0, omega (arith, v .1, r .most), omega (arith, message-fits (l .before .before), bytes-high _ r), output-fits l)
+    (r .kinds, sizes r, omega (arith, message-fits (l .before .before), bytes-high _ r), output-fits l)
 
 same-length : tie.Need-same-length
 same-length c = search needs
@@ -128,10 +136,21 @@ same-length c = search needs
 returns-5 : tie.Need-returns-5
 returns-5 c =
     let s = c .before .before in
-    let n = s .before .before in
+    let w = s .before .before .before .before in
+    let p = w .before .before in
+    let n = p .before .before in
     let l = n .before .before in
-    let e = all-well _ _ _ _ (good (l .before .before .before .before)) (message-fits (l .before .before)) (output-fits l) (node-fits n) in
-    (e, s .write-share .ensures ∙ written _ _ _ _ e)
+    let a = l .before .before .before .before .before .before .before .before .before .args in
+    let k = a .code in
+    let v = a .node .0 in
+    let m = a .message .now in
+    let g = good (l .before .before .before .before) in
+    let e = all-well _ _ _ _ g (message-fits (l .before .before)) (output-fits l) (node-fits n) in (
+      e,
+      s .write-by .ensures
+          ∙ ap₂ (λ (r t : List ℕ). lentShare k r t m) (w .row-of .ensures ∙ node-row k v _ (p .point .ensures)) (p .before .tables .ensures)
+          ∙ share-row k v m (d-high _ (rules _ (sym g))) ∙ written _ _ _ _ e,
+    )
 
 pub encode-spec : {M : Type 1} → statement M
 encode-spec =
@@ -147,6 +166,9 @@ encode-spec =
     returns-3
     is-within-requires
     returns-4
-    write-share-requires
+    tables-requires
+    point-requires
+    row-of-requires
+    write-by-requires
     same-length
     returns-5)

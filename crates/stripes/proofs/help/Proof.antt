@@ -6,20 +6,20 @@ use Prim.Native.Nat.{ℕ}
 use native.Mathlib.Omega.{arith}
 use borrow.Author.Tests.{eq-eqb, ne-eqb, not-true, not-false}
 use lib.ListN.{length}
-use Rattle.algebra.specs.Symbol.{F, pow}
-use Rattle.algebra.specs.Sums.{dot}
-use Rattle.algebra.specs.Bytes.{at}
+use Rattle.algebra.specs.Symbol.{F}
 use Rattle.codes.specs.Told.{_when_, refused, done}
 use Rattle.codes.specs.Judge.{judged, sayJudged}
-use Rattle.codes.specs.Sizes.{alpha, point}
+use Rattle.codes.specs.Sizes.{alpha}
 use Rattle.codes.specs.Share.{symbolFor}
 use Rattle.codes.specs.declared.Code.{Code}
 use Rattle.codes.specs.declared.Refusal.{Refusal}
 use Rattle.codes.specs.declared.Refusal.the-variants.{Length, Node, Repeat}
 use Rattle.codes.proofs.Rules.{rules}
+use Rattle.codes.proofs.Sizes.{alpha-high}
 use Rattle.stripes.specs.Lists.{within}
 use Rattle.stripes.specs.Help.{helpReasons, helped}
-use Rattle.stripes.proofs.Walks.{within-range}
+use Rattle.stripes.specs.Lent.{helpedBy}
+use Rattle.stripes.proofs.Lent.{node-row, helped-row}
 use Rattle.stripes.proofs.Ladder.{judged-refused, judged-stop, judged-done}
 use borrow.Author.Needs.{needs}
 use Rattle.stripes.proofs.help.Statement.{statement}
@@ -53,10 +53,6 @@ module _ (c : Code) (h f : ℕ) (s : List ℕ) where
         all-well : (h ≡ f → ⊥) → done (symbolFor c f s .val) ≡ helped c h f s
         unfolding helped helpReasons
         all-well q = judged-done c g _ _ (simp (eq-eqb _ _ l), (simp (d, e), (ne-eqb h f q, tt)))
-
-symbol-is : (c : Code) (f : ℕ) (s : List ℕ) (x : F) → length s ≡ alpha c → x ≡ point c f → dot (length s) (at s) (pow x) .val ≡ symbolFor c f s .val
-unfolding symbolFor
-symbol-is c f s x l p = ap₂ (λ (n : ℕ) (y : F). dot n (at s) (pow y) .val) l p
 
 -- what each test that was passed says
 good : (c : tie.After-enum-told) → done 0 ≡ judged (c .before .before .before .before .args .code)
@@ -119,26 +115,33 @@ returns-5 c =
 tables-requires : tie.Need-tables-requires
 tables-requires c κs = search needs
 
-point-of-requires : tie.Need-point-of-requires
-point-of-requires c κs =
-    let n = c .before .before .before .before in
-    let l = n .before .before in
-    let s = l .before .before .before .before .before .before .before .before in
-    let r = rules _ (sym (good (l .before .before .before .before))) in
-    let v = within-range (s .args .code) (s .args .failed .0) (failed-fits n) in
-    (v .0, omega (arith, v .1, r .most))
+point-requires : tie.Need-point-requires
+point-requires c κs = search needs
 
-symbol-of-requires : tie.Need-symbol-of-requires
-symbol-of-requires c κs = search needs
+row-of-requires : tie.Need-row-of-requires
+row-of-requires c κs = search needs
+
+help-by-requires : tie.Need-help-by-requires
+help-by-requires c κs = search needs
 
 returns-6 : tie.Need-returns-6
 returns-6 c =
-    let p = c .before .before in
+    let w = c .before .before .before in
+    let p = w .before .before in
     let d = p .before .before in
     let n = d .before .before .before in
     let l = n .before .before in
-    ap done (c .symbol-of .ensures ∙ symbol-is _ _ _ _ (share-fits (l .before .before)) (p .point-of .ensures))
-    ∙ all-well _ _ _ _ (good (l .before .before .before .before)) (share-fits (l .before .before)) (helper-fits l) (failed-fits n) (d .if4 .left)
+    let a = l .before .before .before .before .before .before .before .before .args in
+    let k = a .code in
+    let f = a .failed .0 in
+    let s = a .share .now in
+    let g = good (l .before .before .before .before) in
+    let e = share-fits (l .before .before) in
+    ap done
+    (c .help-by .ensures
+    ∙ ap₂ (λ (r t : List ℕ). helpedBy r t s .val) (w .row-of .ensures ∙ node-row k f _ (p .point .ensures)) (p .before .tables .ensures)
+    ∙ ap (λ (x : F). x .val) (helped-row k f s e (alpha-high _ (rules _ (sym g)))))
+    ∙ all-well _ _ _ _ g e (helper-fits l) (failed-fits n) (d .if4 .left)
 
 pub help-spec : {M : Type 1} → statement M
 help-spec =
@@ -156,6 +159,7 @@ help-spec =
     returns-4
     returns-5
     tables-requires
-    point-of-requires
-    symbol-of-requires
+    point-requires
+    row-of-requires
+    help-by-requires
     returns-6)

@@ -131,9 +131,6 @@ write-answers-requires c κs =
     let y = facts s h in
     let e = x .before .code-in .ensures in (
       subst Rules (sym e) (y .rules),
-      ap₂ within e n ∙ y .node,
-      sym (x .is-node .ensures) ∙ not-false _ (c .before .before .before .before .if2 .left),
-      (λ i. c .before .if3 .left (sym i)),
       y .long ∙ ap stripeAt (sym t),
       x .before .before .if1 .left,
       e,

@@ -121,7 +121,7 @@ write-file-requires c κs =
     let x = c .before .before in
     let p = x .before .before .before .if1 .left ∙ ap (λ (i : ℕ). t * i) (x .before .before .before .before .bytes .ensures) in
     let q = x .before .if2 .left ∙ x .before .before .stripe-at .ensures .0 in
-    (cut-rules code v t k o h, sym (c .before .before .is-node .ensures) ∙ not-false _ (c .before .if3 .left), cut-total code v t k o h, p, q)
+    (cut-rules code v t k o h, cut-total code v t k o h, p, q)
 
 same-length : tie.Need-same-length
 same-length c = search needs

@@ -1,4 +1,4 @@
--- `cutting::stripe_of` meets its contract: of an accepted code, a node and a message of the right length encoding refuses nothing.
+-- `cutting::stripe_of` meets its contract: of an accepted code and a message of the right length the whole share is written.
 -- Assumes nothing.
 use mathlib.Core.Path.{_≡_, _∙_, refl, sym, ap, ap₂}
 use Prim.Native.Nat.{ℕ, _+_, _*_, _-_, _<_, _≤_}
@@ -7,8 +7,7 @@ use mathlib.Core.List.{List}
 use lib.ListN.{length, replicate}
 use lib.Seq.{length-take-le}
 use Rattle.codes.proofs.Sizes.{alpha-high}
-use Rattle.codes.proofs.Slip.{share-length}
-use Rattle.books.proofs.Settled.{encode-done}
+use Rattle.books.proofs.Settled.{lent-length, encode-done}
 use Rattle.books.proofs.Sheet.{prefix-fits, prefix-long, stripe-whole}
 use borrow.Author.Needs.{needs}
 use Rattle.books.proofs.cutting.stripe_of.Statement.{statement}
@@ -24,16 +23,16 @@ alpha-requires c κs = search needs
 array-borrow-prefix-symbols : tie.Need-array-borrow-prefix-symbols
 array-borrow-prefix-symbols c = let z = c .before .before in omega (arith, c .alpha .ensures, alpha-high (z .args .code) (z .pre .0))
 
-slice-aggregate-encode : tie.Need-slice-aggregate-encode
-slice-aggregate-encode c =
+slice-aggregate-encode-by : tie.Need-slice-aggregate-encode-by
+slice-aggregate-encode-by c =
     let x = c .before in
     let z = x .before .before in
     let a = z .args in
     let n : x .alpha .result ≤ 31 = omega (arith, x .alpha .ensures, alpha-high (a .code) (z .pre .0)) in
     sym (length-take-le (x .alpha .result) zeros n)
 
-encode-requires : tie.Need-encode-requires
-encode-requires c κs = search needs
+encode-by-requires : tie.Need-encode-by-requires
+encode-by-requires c κs = search needs
 
 array-share-prefix-symbols : tie.Need-array-share-prefix-symbols
 array-share-prefix-symbols c =
@@ -42,9 +41,9 @@ array-share-prefix-symbols c =
     let a = z .args in
     let n : x .alpha .result ≤ 31 = omega (arith, x .alpha .ensures, alpha-high (a .code) (z .pre .0)) in
     let l = length-take-le (x .alpha .result) zeros n ∙ x .alpha .ensures in
-    let e = c .before .encode .ensures .1 ∙ encode-done (a .code) (z .pre .0) (a .node .0) (a .message .now) _ (z .pre .1) (z .pre .2) l in
-    let w = ap length e ∙ share-length (a .code) (a .node .0) (a .message .now) ∙ sym (x .alpha .ensures) in
-    prefix-fits (c .before .encode .last .1 .1 .1 .0) zeros (x .alpha .result) w
+    let e = c .before .encode-by .ensures ∙ encode-done (a .code) (z .pre .0) (a .row .now) (a .t .now) (a .message .now) _ (z .pre .1) l in
+    let w = ap length e ∙ lent-length (a .code) (a .row .now) (a .t .now) (a .message .now) ∙ sym (x .alpha .ensures) in
+    prefix-fits (c .before .encode-by .last .1 .1 .1 .1 .0) zeros (x .alpha .result) w
 
 slice-aggregate-stripe-record : tie.Need-slice-aggregate-stripe-record
 slice-aggregate-stripe-record c =
@@ -53,9 +52,9 @@ slice-aggregate-stripe-record c =
     let a = z .args in
     let n : x .alpha .result ≤ 31 = omega (arith, x .alpha .ensures, alpha-high (a .code) (z .pre .0)) in
     let l = length-take-le (x .alpha .result) zeros n ∙ x .alpha .ensures in
-    let e = c .before .before .encode .ensures .1 ∙ encode-done (a .code) (z .pre .0) (a .node .0) (a .message .now) _ (z .pre .1) (z .pre .2) l in
-    let w = ap length e ∙ share-length (a .code) (a .node .0) (a .message .now) ∙ sym (x .alpha .ensures) in
-    prefix-long (c .before .before .encode .last .1 .1 .1 .0) zeros (x .alpha .result) w
+    let e = c .before .before .encode-by .ensures ∙ encode-done (a .code) (z .pre .0) (a .row .now) (a .t .now) (a .message .now) _ (z .pre .1) l in
+    let w = ap length e ∙ lent-length (a .code) (a .row .now) (a .t .now) (a .message .now) ∙ sym (x .alpha .ensures) in
+    prefix-long (c .before .before .encode-by .last .1 .1 .1 .1 .0) zeros (x .alpha .result) w
 
 stripe-record-requires : tie.Need-stripe-record-requires
 stripe-record-requires c κs = search needs
@@ -67,9 +66,9 @@ returns c =
     let a = z .args in
     let n : x .alpha .result ≤ 31 = omega (arith, x .alpha .ensures, alpha-high (a .code) (z .pre .0)) in
     let l = length-take-le (x .alpha .result) zeros n ∙ x .alpha .ensures in
-    let e = c .before .before .before .encode .ensures .1 ∙ encode-done (a .code) (z .pre .0) (a .node .0) (a .message .now) _ (z .pre .1) (z .pre .2) l in
-    let w = ap length e ∙ share-length (a .code) (a .node .0) (a .message .now) ∙ sym (x .alpha .ensures) in
-    stripe-whole (c .before .before .before .encode .last .1 .1 .1 .0) zeros (x .alpha .result) w _ _ (a .i) n e (c .stripe-record .ensures)
+    let e = c .before .before .before .encode-by .ensures ∙ encode-done (a .code) (z .pre .0) (a .row .now) (a .t .now) (a .message .now) _ (z .pre .1) l in
+    let w = ap length e ∙ lent-length (a .code) (a .row .now) (a .t .now) (a .message .now) ∙ sym (x .alpha .ensures) in
+    stripe-whole (c .before .before .before .encode-by .last .1 .1 .1 .1 .0) zeros (x .alpha .result) w _ _ (a .i) n e (c .stripe-record .ensures)
 
 pub stripe-of-spec : {M : Type 1} → statement M
 stripe-of-spec =
@@ -77,8 +76,8 @@ stripe-of-spec =
     (tie.spec
     alpha-requires
     array-borrow-prefix-symbols
-    slice-aggregate-encode
-    encode-requires
+    slice-aggregate-encode-by
+    encode-by-requires
     array-share-prefix-symbols
     slice-aggregate-stripe-record
     stripe-record-requires

@@ -1,175 +1,23 @@
--- `cutting::write_file` meets its contract. The loop's invariant: C, N and the D records of the stripes passed stand in the output.
+-- `cutting::write_file` meets its contract: the row lent is the node's, and the table the right one.
 -- Assumes nothing.
-use mathlib.Core.Path.{_≡_, _∙_, refl, sym, ap, ap₂}
-use Prim.Native.Nat.{ℕ, _+_, _*_, _-_, _<_, _≤_}
-use native.Mathlib.Omega.{arith}
-use mathlib.Core.List.{List}
-use lib.ListN.{length, take}
-use Rattle.codes.specs.Sizes.{bytes}
-use Rattle.codes.specs.Share.{share}
-use Rattle.codes.proofs.Sizes.{alpha-high, bytes-high, small}
-use Rattle.codes.proofs.Slip.{share-length}
-use Rattle.shares.specs.Fields.{stripeAt, stripeRecord}
-use Rattle.shares.specs.Afresh.{stripeOf}
-use Rattle.shares.proofs.Fresh.{stripe-length}
-use Rattle.books.proofs.Sheet.{room, as-long, part-long, message-is, Sheet, sheet-start, sheet-next, sheet-end}
 use borrow.Author.Needs.{needs}
 use Rattle.books.proofs.cutting.write_file.Statement.{statement}
 use Rattle.books.proofs.cutting.write_file.Tie as tie
 
-abbrev Inv-loop : tie.InvT-loop
-Inv-loop code node stripes book output₀ b i₀ output i = (i ≤ stripes) × (length output ≡ stripeAt stripes) × (take (stripeAt i) output ≡ Sheet code (node .0) stripes book i)
+tables-requires : tie.Need-tables-requires
+tables-requires c κs = search needs
 
-abbrev μ-loop : tie.MeasureT-loop
-μ-loop code node stripes book output₀ b i₀ output i = stripes - i
+row-requires : tie.Need-row-requires
+row-requires c κs = search needs
 
-code-record-requires : tie.Need-code-record-requires Inv-loop μ-loop
-code-record-requires c κs = search needs
+write-by-requires : tie.Need-write-by-requires
+write-by-requires c κs = search needs
 
-slice-aggregate-put : tie.Need-slice-aggregate-put Inv-loop μ-loop
-slice-aggregate-put c = search needs
-
-put-requires : tie.Need-put-requires Inv-loop μ-loop
-put-requires c κs = search needs
-
-node-record-requires : tie.Need-node-record-requires Inv-loop μ-loop
-node-record-requires c κs = search needs
-
-slice-aggregate-put-2 : tie.Need-slice-aggregate-put-2 Inv-loop μ-loop
-slice-aggregate-put-2 c = search needs
-
-put-requires-2 : tie.Need-put-requires-2 Inv-loop μ-loop
-put-requires-2 c κs = search needs
-
-bytes-requires : tie.Need-bytes-requires Inv-loop μ-loop
-bytes-requires c κs = search needs
-
-loop-holds : tie.Need-loop-holds Inv-loop μ-loop
-loop-holds c =
-    let z = c .before .before .before .before .before .before .before .before .before .before .before .before .before .before .before in
-    let a = z .args in
-    let p = c .before .before .before .before .before .before .before .before .before .put .ensures .1 in
-    let q = c .before .before .before .put2 .ensures .1 in
-    let l : length (c .before .before .before .before .before .before .before .before .before .before .before .code-record .result) ≡ 37 = search needs in
-    let m : length (c .before .before .before .before .before .node-record .result) ≡ 8 = search needs in (
-      search needs,
-      as-long (c .before .before .before .put2 .last .0) (c .before .before .before .before .before .before .before .before .before .put .last .0) (c .before .before .before .before .before .node-record .result) 37 q ∙ as-long (c .before .before .before .before .before .before .before .before .before .put .last .0) (a .output .now) (c .before .before .before .before .before .before .before .before .before .before .before .code-record .result) 0 p ∙ z .pre .4,
-      sheet-start (a .code) (a .node .0) (a .stripes) (a .book .now) (a .output .now) _ _ _ _ (c .before .before .before .before .before .before .before .before .before .before .before .code-record .ensures) (c .before .before .before .before .before .node-record .ensures) l m (omega (arith, z .pre .4)) p q,
-    )
-
-cast-start : tie.Need-cast-start Inv-loop μ-loop
-cast-start c = search needs
-
-mul-start : tie.Need-mul-start Inv-loop μ-loop
-mul-start c =
-    let l = c .before in
-    let z = l .before .before .before .before .before .before .before .before .before .before .before .before .before .before .before .before in
-    let e = l .before .bytes .ensures in
-    let r = room (l .loop .i) (z .args .stripes) (l .before .bytes .result) (c .loop-test .taken) in
-    let p = z .pre .3 ∙ ap (λ (k : ℕ). z .args .stripes * k) (sym e) in
-    let u = bytes-high (z .args .code) (z .pre .0) in
-    omega (arith, small (l .loop .i) (l .before .bytes .result) 1024 496 (omega (arith, z .pre .2, c .loop-test .taken)) (omega (arith, e, u)), e, u)
-
-add-end : tie.Need-add-end Inv-loop μ-loop
-add-end c =
-    let l = c .before in
-    let z = l .before .before .before .before .before .before .before .before .before .before .before .before .before .before .before .before in
-    let e = l .before .bytes .ensures in
-    let r = room (l .loop .i) (z .args .stripes) (l .before .bytes .result) (c .loop-test .taken) in
-    let p = z .pre .3 ∙ ap (λ (k : ℕ). z .args .stripes * k) (sym e) in
-    let u = bytes-high (z .args .code) (z .pre .0) in
-    omega (arith, small (l .loop .i) (l .before .bytes .result) 1024 496 (omega (arith, z .pre .2, c .loop-test .taken)) (omega (arith, e, u)), e, u)
-
-sub-message : tie.Need-sub-message Inv-loop μ-loop
-sub-message c = search needs
-
-part-message-start : tie.Need-part-message-start Inv-loop μ-loop
-part-message-start c = search needs
-
-part-message-end : tie.Need-part-message-end Inv-loop μ-loop
-part-message-end c =
-    let l = c .before in
-    let z = l .before .before .before .before .before .before .before .before .before .before .before .before .before .before .before .before in
-    let e = l .before .bytes .ensures in
-    let r = room (l .loop .i) (z .args .stripes) (l .before .bytes .result) (c .loop-test .taken) in
-    let p = z .pre .3 ∙ ap (λ (k : ℕ). z .args .stripes * k) (sym e) in
-    omega (arith, r, p)
-
-stripe-at-requires : tie.Need-stripe-at-requires Inv-loop μ-loop
-stripe-at-requires c κs = search needs
-
-stripe-of-requires : tie.Need-stripe-of-requires Inv-loop μ-loop
-stripe-of-requires c κs =
-    let l = c .before .before .before .before in
-    let z = l .before .before .before .before .before .before .before .before .before .before .before .before .before .before .before .before in
-    let e = l .before .bytes .ensures in
-    let r = room (l .loop .i) (z .args .stripes) (l .before .bytes .result) (c .before .before .before .loop-test .taken) in
-    let p = z .pre .3 ∙ ap (λ (k : ℕ). z .args .stripes * k) (sym e) in
-    (z .pre .0, z .pre .1, part-long (z .args .book .now) (l .loop .i * l .before .bytes .result) (l .before .bytes .result) (bytes (z .args .code)) (omega (arith, r, p)) e)
-
-slice-aggregate-put-3 : tie.Need-slice-aggregate-put-3 Inv-loop μ-loop
-slice-aggregate-put-3 c = search needs
-
-put-requires-3 : tie.Need-put-requires-3 Inv-loop μ-loop
-put-requires-3 c κs = search needs
-
-add-i : tie.Need-add-i Inv-loop μ-loop
-add-i c = search needs
-
-loop-less : tie.Need-loop-less Inv-loop μ-loop
-loop-less c = search needs
-
-loop-again : tie.Need-loop-again Inv-loop μ-loop
-loop-again c =
-    let l = c .before .before .before .before .before .before .before .before .before in
-    let z = l .before .before .before .before .before .before .before .before .before .before .before .before .before .before .before .before in
-    let a = z .args in
-    let e = l .before .bytes .ensures in
-    let i = l .loop .i in
-    let q = c .before .before .put3 .ensures .1 in
-    let f = c .before .before .before .before .stripe-of .ensures ∙ ap (λ (x : List ℕ). stripeRecord i (share (a .code) (a .node .0) x)) (message-is (a .book .now) i (l .before .bytes .result) (bytes (a .code)) e) in
-    let n = ap length f ∙ stripe-length i (share (a .code) (a .node .0) (stripeOf (a .code) (a .book .now) i)) (omega (arith, share-length (a .code) (a .node .0) (stripeOf (a .code) (a .book .now) i), alpha-high (a .code) (z .pre .0))) in (
-      omega (arith, c .before .before .before .before .before .before .before .before .loop-test .taken),
-      as-long (c .before .before .put3 .last .0) (l .loop .output) (c .before .before .before .before .stripe-of .result) (c .before .before .before .before .before .stripe-at .result) q ∙ l .loop .inv .1,
-      sheet-next (a .code) (a .node .0) (a .stripes) (a .book .now) i _ (l .loop .output) _ _ (alpha-high (a .code) (z .pre .0)) (l .loop .inv .2) (c .before .before .before .before .before .stripe-at .ensures .0) f n
-          (omega (arith, l .loop .inv .1, c .before .before .before .before .before .before .before .before .loop-test .taken)) q,
-    )
-
-same-length : tie.Need-same-length Inv-loop μ-loop
+same-length : tie.Need-same-length
 same-length c = search needs
 
-returns : tie.Need-returns Inv-loop μ-loop
-returns c =
-    let l = c .before in
-    let a = l .before .before .before .before .before .before .before .before .before .before .before .before .before .before .before .before .args in
-    sheet-end (a .code) (a .node .0) (a .stripes) (a .book .now) (l .loop .i) (l .loop .output) (omega arith) (l .loop .inv .1) (l .loop .inv .2)
+returns : tie.Need-returns
+returns c = search needs
 
 pub write-file-spec : {M : Type 1} → statement M
-write-file-spec =
-    tie.close
-    (tie.spec
-    Inv-loop
-    μ-loop
-    code-record-requires
-    slice-aggregate-put
-    put-requires
-    node-record-requires
-    slice-aggregate-put-2
-    put-requires-2
-    bytes-requires
-    loop-holds
-    cast-start
-    mul-start
-    add-end
-    sub-message
-    part-message-start
-    part-message-end
-    stripe-at-requires
-    stripe-of-requires
-    slice-aggregate-put-3
-    put-requires-3
-    add-i
-    loop-less
-    loop-again
-    same-length
-    returns)
+write-file-spec = tie.close (tie.spec tables-requires row-requires write-by-requires same-length returns)

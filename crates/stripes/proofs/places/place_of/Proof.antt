@@ -5,8 +5,9 @@ use native.Mathlib.Omega.{arith}
 use borrow.Author.Tests.{eq-eqb, ne-eqb}
 use Rattle.codes.specs.Matrix.{mbr, msr, matrix}
 use Rattle.codes.specs.declared.Code.{Code}
-use Rattle.codes.proofs.Sizes.{alpha-one, alpha-two, d-high, second-kind, k-two}
+use Rattle.codes.proofs.Sizes.{alpha-one, alpha-two}
 use Rattle.stripes.specs.Arrays.{Placed}
+use Rattle.stripes.proofs.Shapes.{d-most, k-most, kind-two}
 use borrow.Author.Needs.{needs}
 use Rattle.stripes.proofs.places.place_of.Statement.{statement}
 use Rattle.stripes.proofs.places.place_of.Tie as tie
@@ -29,8 +30,8 @@ cast-mbr-place-2 c = search needs
 mbr-place-requires : tie.Need-mbr-place-requires
 mbr-place-requires c κs =
     let s = c .before .before .before .before in
-    let r = s .pre .0 in
-    (r .order, d-high _ r, s .pre .1, omega (arith, alpha-one (s .args .code) (c .before .before .if1 .taken)))
+    let r = s .pre .1 in
+    (r .order, d-most _ r, s .pre .2, omega (arith, alpha-one (s .args .code) (c .before .before .if1 .taken)))
 
 returns : tie.Need-returns
 returns c = one _ _ _ _ (c .before .before .before .if1 .taken) (c .mbr-place .ensures)
@@ -41,11 +42,11 @@ cast-msr-place c = search needs
 msr-place-requires : tie.Need-msr-place-requires
 msr-place-requires c κs =
     let s = c .before .before .before in
-    let r = s .pre .0 in
+    let r = s .pre .1 in
     let h = c .before .if1 .left in
-    let e = second-kind _ r h in
+    let e = kind-two (s .args .code) (s .pre .0) h in
     let t = r .second e in
-    (t .0, k-two _ r e, omega (arith, t .1), omega (arith, alpha-two (s .args .code) h))
+    (t .0, k-most (s .args .code) r e, omega (arith, t .1), omega (arith, alpha-two (s .args .code) h))
 
 returns-2 : tie.Need-returns-2
 returns-2 c = two _ _ _ _ (c .before .before .if1 .left) (c .msr-place .ensures)

@@ -11,8 +11,8 @@ use Rattle.algebra.specs.Symbol.{symbol, 𝟘}
 use Rattle.codes.specs.Sizes.{none}
 use Rattle.codes.specs.Matrix.{matrix}
 use Rattle.codes.specs.declared.Code.{Code}
-use Rattle.codes.proofs.Sizes.{d-high, alpha-high}
 use Rattle.stripes.specs.Arrays.{symbolAt}
+use Rattle.stripes.proofs.Shapes.{d-most, alpha-most}
 use Rattle.stripes.proofs.Vectors.{symbol-zero}
 use Rattle.stripes.proofs.Grids.{Shape, Upto, Along, upto-store, along-store, shape-replicate, shape-set2}
 use borrow.Author.Needs.{needs}
@@ -51,21 +51,21 @@ loop2-holds c = (search needs, c .before .loop .inv .1, c .before .loop .inv .2,
 place-of-requires : tie.Need-place-of-requires Inv-loop2 μ-loop2 Inv-loop μ-loop
 place-of-requires c κs =
     let s = c .before .before .before .before .before in
-    (s .pre .0, omega arith, omega (arith, s .pre .1))
+    (s .pre .0, s .pre .1, omega arith, omega (arith, s .pre .2))
 
 array-copy-out-v : tie.Need-array-copy-out-v Inv-loop2 μ-loop2 Inv-loop μ-loop
 array-copy-out-v c = search needs
 
 mul-v : tie.Need-mul-v Inv-loop2 μ-loop2 Inv-loop μ-loop
-mul-v c = omega (arith, d-high _ (c .before .before .before .before .before .before .before .pre .0))
+mul-v c = omega (arith, d-most _ (c .before .before .before .before .before .before .before .pre .1))
 
 index-1-v : tie.Need-index-1-v Inv-loop2 μ-loop2 Inv-loop μ-loop
-index-1-v c = omega (arith, d-high _ (c .before .before .before .before .before .before .before .pre .0))
+index-1-v c = omega (arith, d-most _ (c .before .before .before .before .before .before .before .pre .1))
 
 index-2-v : tie.Need-index-2-v Inv-loop2 μ-loop2 Inv-loop μ-loop
 index-2-v c =
     let s = c .before .before .before .before .before .before .before in
-    omega (arith, s .pre .1, alpha-high _ (s .pre .0))
+    omega (arith, s .pre .2, alpha-most _ (s .pre .1) (s .pre .0))
 
 add-j : tie.Need-add-j Inv-loop2 μ-loop2 Inv-loop μ-loop
 add-j c = search needs
@@ -81,7 +81,7 @@ loop2-again c =
     let s = z .args in
     let P = Right (s .code) (s .t3) in
     let long : length (s .t3) ≡ 496 = search needs in
-    let low : i < 31 = omega (arith, d-high _ (z .pre .0)) in
+    let low : i < 31 = omega (arith, d-most _ (z .pre .1)) in
     let r = c .before .place-of .result in
     let named : symbolAt (s .t3) r ≡ matrix (s .code) (symbolAt (s .t3)) i (l .j) =
     c .before .place-of .ensures (symbolAt (s .t3)) (past (s .t3) 496 (omega arith)) in
@@ -92,7 +92,7 @@ loop2-again c =
       shape-set2 31 31 (l .g) i (l .j) _ low (l .inv .1),
       upto-store P none (s .a) (l .g) i (l .j) _ (l .inv .2),
       along-store P none (l .g) i (l .j) _ (omega (arith, l .inv .1 .rows))
-          (omega (arith, l .inv .1 .cols i low, z .pre .1, alpha-high _ (z .pre .0))) (l .inv .3) e,
+          (omega (arith, l .inv .1 .cols i low, z .pre .2, alpha-most _ (z .pre .1) (z .pre .0))) (l .inv .3) e,
     )
 
 add-i : tie.Need-add-i Inv-loop2 μ-loop2 Inv-loop μ-loop
