@@ -11,6 +11,10 @@ use Rattle.codes.proofs.Code.point.Kinds as point-kinds
 use Rattle.codes.proofs.Code.point.Reads as point-reads
 use Rattle.codes.proofs.Code.cell.Kinds as cell-kinds
 use Rattle.codes.proofs.Code.cell.Reads as cell-reads
+use Rattle.codes.proofs.is_known.Kinds as is-known-kinds
+use Rattle.codes.proofs.is_known.Reads as is-known-reads
+use Rattle.codes.proofs.is_sized.Kinds as is-sized-kinds
+use Rattle.codes.proofs.is_sized.Reads as is-sized-reads
 use Rattle.codes.proofs.code_at.Kinds as code-at-kinds
 use Rattle.codes.proofs.code_at.Reads as code-at-reads
 use Rattle.codes.proofs.Refusal.number.Kinds as number-kinds
@@ -41,6 +45,12 @@ point-equal κs a x y s t p q = symbol-only x y (p ∙ sym q)
 
 pub cell-equal : Equal 0 cell-kinds.ps cell-kinds.r cell-reads.Post
 cell-equal κs a x y s t p q = cell-only x y (p .0 ∙ sym (q .0)) (p .1 ∙ sym (q .1)) (p .2 ∙ sym (q .2))
+
+pub is-known-equal : Equal 0 is-known-kinds.ps is-known-kinds.r is-known-reads.Post
+is-known-equal κs a x y s t p q = p ∙ sym q
+
+pub is-sized-equal : Equal 0 is-sized-kinds.ps is-sized-kinds.r is-sized-reads.Post
+is-sized-equal κs a x y s t p q = p ∙ sym q
 
 pub code-at-equal : Equal 1 code-at-kinds.ps code-at-kinds.r code-at-reads.Post
 code-at-equal κs a x y s t p q = p ∙ sym q

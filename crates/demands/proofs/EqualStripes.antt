@@ -16,6 +16,12 @@ use Rattle.stripes.proofs.encode.Kinds as encode-kinds
 use Rattle.stripes.proofs.encode.Reads as encode-reads
 use Rattle.stripes.proofs.help.Kinds as help-kinds
 use Rattle.stripes.proofs.help.Reads as help-reads
+use Rattle.stripes.proofs.row.Kinds as row-kinds
+use Rattle.stripes.proofs.row.Reads as row-reads
+use Rattle.stripes.proofs.help_by.Kinds as help-by-kinds
+use Rattle.stripes.proofs.help_by.Reads as help-by-reads
+use Rattle.stripes.proofs.encode_by.Kinds as encode-by-kinds
+use Rattle.stripes.proofs.encode_by.Reads as encode-by-reads
 use Rattle.rebuilds.proofs.points.point_of.Kinds as point-of-kinds
 use Rattle.rebuilds.proofs.points.point_of.Reads as point-of-reads
 use Rattle.rebuilds.proofs.points.points_of.Kinds as points-of-kinds
@@ -29,7 +35,7 @@ use Rattle.rebuilds.proofs.rebuild.Reads as rebuild-reads
 use Rattle.collects.proofs.collect.Kinds as collect-kinds
 use Rattle.collects.proofs.collect.Reads as collect-reads
 use Rattle.demands.specs.Equal.{Equal, EqualLeft}
-use Rattle.demands.proofs.Only.{counted-only, encoded-only, helped-only}
+use Rattle.demands.proofs.Only.{counted-only, encoded-only, helped-only, symbol-only}
 
 -- ---- stripes
 
@@ -53,6 +59,15 @@ encode-equal κs a x y s t p q = (encoded-only x y (p .0 ∙ sym (q .0)), p .1 �
 
 pub help-equal : Equal 1 help-kinds.ps help-kinds.r help-reads.Post
 help-equal κs a x y s t p q = helped-only x y (p ∙ sym q)
+
+pub row-equal : Equal 0 row-kinds.ps row-kinds.r row-reads.Post
+row-equal κs a x y s t p q = p ∙ sym q
+
+pub help-by-equal : Equal 3 help-by-kinds.ps help-by-kinds.r help-by-reads.Post
+help-by-equal κs a x y s t p q = symbol-only x y (p ∙ sym q)
+
+pub encode-by-equal : EqualLeft 4 encode-by-kinds.ps encode-by-kinds.r encode-by-reads.Post (λ κs s. now (s .1 .1 .1 .1 .0))
+encode-by-equal κs a x y s t p q = (refl, p ∙ sym q)
 
 -- ---- rebuilds
 
