@@ -1,15 +1,14 @@
 -- The ladders of cutting a book and of answering for a failed node: each law is one answer.
 -- Assumes nothing.
-use mathlib.Core.Path.{_≡_, _∙_, refl, sym, ap, subst}
-use mathlib.Core.Logic.{_≢_}
+use mathlib.Core.Path.{_≡_, _∙_, refl, sym, ap}
 use mathlib.Core.Bool.{Bool, true, false, not, _&&_, _||_, and-false}
-use mathlib.Core.List.{List, [], _∷_, _++_}
+use mathlib.Core.List.{List}
 use Prim.Native.Nat.{ℕ, _*_, _≤_}
 use native.Mathlib.Omega.{arith}
 use lib.Dec.{eqb, leb}
 use lib.ListN.{length}
-use borrow.Author.Tests.{eq-eqb, ne-eqb, leb-true, not-true, not-false, eqb-true}
-use Rattle.codes.specs.Told.{Told, Reason, _when_, numberOf, refused, done, refusal, answered}
+use borrow.Author.Tests.{eq-eqb, ne-eqb, leb-true, not-false}
+use Rattle.codes.specs.Told.{Reason, refused, done, answered}
 use Rattle.codes.specs.Reasons.{Clear, numbered}
 use Rattle.codes.specs.Rules.{Rules}
 use Rattle.codes.specs.Sizes.{bytes}
@@ -17,14 +16,13 @@ use Rattle.codes.specs.Judge.{known, sized, pointed, marks, judgeReasons, judge
 use Rattle.codes.specs.declared.Code.{Code}
 use Rattle.codes.specs.declared.Refusal.{Refusal}
 use Rattle.codes.specs.declared.Refusal.the-variants.{Length, Node, Repeat}
-use Rattle.codes.proofs.Bools.{both, and-left, and-right, apart}
+use Rattle.codes.proofs.Bools.{both, and-right, apart}
 use Rattle.codes.proofs.Told.{refused-first, answered-skip, answered-hand-on, answered-goes-on, done-clear, clear-done}
 use Rattle.codes.proofs.Rules.{rules}
 use Rattle.stripes.specs.Lists.{within}
 use Rattle.shares.specs.Fields.{codeIn, nodeIn, stripesIn, countIn, stripeAt}
-use Rattle.shares.specs.File.{totalled, nodeReasons, fileReasons}
+use Rattle.shares.specs.File.{totalled, fileReasons}
 use Rattle.shares.specs.Total.{codeReasons}
-use Rattle.shares.specs.Slip.{leftBy}
 use Rattle.shares.specs.Afresh.{afresh}
 use Rattle.shares.proofs.Answers.{nonzero, left-refused, left-done}
 use Rattle.shares.proofs.Accepted.{clear-append}

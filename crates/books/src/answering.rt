@@ -14,13 +14,13 @@ use stripes::Encoded;
 use stripes::help_by;
 use stripes::row;
 ghost use mathlib.Core.Path.{_≡_};
-ghost use Prim.Native.Nat.{_+_, _*_, _≤_, _<_};
+ghost use Prim.Native.Nat.{_+_, _*_, _<_};
 ghost use lib.ListN.{length};
 ghost use Rattle.codes.specs.Rules.{Rules};
 ghost use Rattle.field.specs.Tables.{tables};
 ghost use Rattle.stripes.specs.Encode.{sayEncoded};
 ghost use Rattle.stripes.specs.Lent.{rowBytes};
-ghost use Rattle.shares.specs.Fields.{codeIn, nodeIn, stripesIn, countIn, stripeAt, part};
+ghost use Rattle.shares.specs.Fields.{codeIn, nodeIn, countIn, stripeAt};
 ghost use Rattle.shares.specs.File.{sayFiled};
 ghost use Rattle.books.specs.Answer.{answersFrom, answerTold, answerLeaves};
 

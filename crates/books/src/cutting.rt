@@ -15,17 +15,15 @@ use stripes::Encoded;
 use stripes::encode_by;
 use stripes::row;
 ghost use mathlib.Core.Path.{_≡_};
-ghost use mathlib.Core.List.{_++_};
 ghost use Prim.Native.Nat.{_*_, _≤_, _<_};
-ghost use lib.ListN.{length, take, drop};
-ghost use Rattle.records.specs.Writing.{putAt};
+ghost use lib.ListN.{length};
 ghost use Rattle.codes.specs.Sizes.{bytes};
 ghost use Rattle.codes.specs.Rules.{Rules};
 ghost use Rattle.field.specs.Tables.{tables};
 ghost use Rattle.stripes.specs.Encode.{sayEncoded};
 ghost use Rattle.stripes.specs.Lent.{rowBytes, lentShare};
 ghost use Rattle.shares.specs.Fields.{stripeAt, stripeRecord};
-ghost use Rattle.shares.specs.Afresh.{stripeOf, afresh};
+ghost use Rattle.shares.specs.Afresh.{afresh};
 ghost use Rattle.books.specs.Cut.{cutTold, cutLeaves};
 
 // The D record of one stripe of an accepted code, by a lent row and a lent table.

@@ -7,7 +7,7 @@
 --   passed                     what is known once all tests have passed
 -- Assumes nothing.
 use mathlib.Core.Path.{_≡_, _∙_, sym, ap}
-use mathlib.Core.Bool.{Bool, true, false, _&&_}
+use mathlib.Core.Bool.{Bool, true, _&&_}
 use mathlib.Core.List.{List}
 use Prim.Native.Nat.{ℕ, _*_}
 use borrow.Author.Tests.{eqb-true}

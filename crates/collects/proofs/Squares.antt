@@ -2,27 +2,28 @@
 --   symbol-zero                 the byte 0 is zero
 --   dot-start, dot-step         a sum of products in an accumulator
 --   same-store                  a row filled from the front, one store a turn
+--   long-zero, long-store       rows stay 31 bytes long
 --   holds-store                 a square filled row by row;   holds-zero    a square of zeros
 --   copied-none, copied-store   a square whose rows are replaced one by one
 -- Assumes nothing.
-use mathlib.Core.Path.{_≡_, _∙_, refl, sym, ap, ap₂}
+use mathlib.Core.Path.{_≡_, _∙_, refl, ap, ap₂}
 use mathlib.Core.Logic.{by-cases}
 use mathlib.Core.List.{List, []}
-use Prim.Native.Nat.{ℕ, _+_, _<_, _≤_}
-use native.Mathlib.Nat.{add-zero}
+use Prim.Native.Nat.{ℕ, _+_, _<_}
 use native.Mathlib.Numerals.{add-one}
 use native.Mathlib.Omega.{arith}
 use borrow.Author.Count.{below-more, below-none}
 use lib.Bits.{bitXor}
-use lib.ListN.{length, getD, set, replicate, getD-replicate}
+use native.Mathlib.Decide.{ℕ-discrete}
+use lib.ListN.{length, getD, set, replicate, length-replicate, getD-replicate}
 use lib.Seq.{getD-set-same, getD-set-other}
 use Rattle.field.specs.Field.{mul}
-use Rattle.algebra.specs.Symbol.{F, symbol, _⊕_, _⊗_, 𝟘}
+use Rattle.algebra.specs.Symbol.{symbol, _⊕_, _⊗_, 𝟘}
 use Rattle.algebra.specs.Sums.{Vec, Grid, Same, sum, dot}
 use Rattle.algebra.specs.Bytes.{at}
 use Rattle.algebra.proofs.Ring.{F-path, symbol-add, symbol-mul}
 use Rattle.algebra.proofs.Bytes.{at-set, at-set-other}
-use Rattle.collects.specs.Squares.{cells, Holds, Copied}
+use Rattle.collects.specs.Squares.{cells, Holds, Long, Copied}
 
 pub symbol-zero : symbol 0 ≡ 𝟘
 unfolding symbol 𝟘
@@ -46,6 +47,15 @@ module _ {n : ℕ} {f : Vec} (l : List ℕ) (v : ℕ) where
   same-store h e p = below-more _ _ (λ i k. at-set-other l n v i (λ q. omega arith) ∙ e i k) (at-set l n v h ∙ p)
 
 -- ---- squares
+
+pub long-zero : Long (replicate 31 (replicate 31 0))
+long-zero i h = ap length (getD-replicate 31 i (replicate 31 0) [] h) ∙ length-replicate {A = ℕ} 31 0
+
+pub long-store : (g : List (List ℕ)) (j : ℕ) (r : List ℕ) → length g ≡ 31 → length r ≡ 31 → Long g → Long (set g j r)
+long-store g j r e l f i h =
+    by-cases (ℕ-discrete i j)
+    (λ c. ap (λ (x : ℕ). length (getD (set g j r) x [])) c ∙ ap length (getD-set-same g j r [] (omega (arith, e))) ∙ l)
+    (λ c. ap length (getD-set-other g j i r [] c) ∙ f i h)
 
 pub holds-zero : (n : ℕ) (i : ℕ) → i < n → (m : ℕ) → (j : ℕ) → j < m → cells (replicate n (replicate m 0)) i j ≡ 𝟘
 holds-zero n i h m j k =

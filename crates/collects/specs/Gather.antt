@@ -6,12 +6,10 @@
 --   Halves w xs l R m h  the first m rows of h are what those of P solve for, and m from row w on what those of Q do: P and Q part R by the factors l
 --   deep c               how many rows of the matrix a collection finds: kind 1 those of S, kind 2 all
 -- Assumes nothing.
-use mathlib.Core.Path.{_≡_}
 use mathlib.Core.Bool.{cond}
 use mathlib.Core.List.{List}
 use Prim.Native.Nat.{ℕ, _+_, _-_, _<_}
 use lib.Dec.{eqb, ltb}
-use Rattle.algebra.specs.Symbol.{F}
 use Rattle.algebra.specs.Sums.{Vec, Grid, Same}
 use Rattle.algebra.specs.Bytes.{at}
 use Rattle.algebra.specs.Hollow.{first, second}

@@ -18,18 +18,18 @@ ghost use Rattle.collects.specs.Gather.{From, joined};
 // What is left of the column y of the shares: from each entry its row of powers times the row r of T is taken.
 fn rest(
     rows: &[[u8; 31]; 31],
-    y: [u8; 31],
-    r: [u8; 31],
+    y: &[u8; 31],
+    r: &[u8; 31],
     k: usize,
     d: usize,
     t: &[u8; 768],
 ) -> [u8; 31]
     requires { ⌜ (k ≤ 31) × (d ≤ 31) × (now t ≡ tables) ⌝ }
-    ensures { λ v. ⌜ Same k (at v) (λ u. at y u ⊕ dot d (cells (now (rows .entry)) u) (at r)) ⌝ }
+    ensures { λ v. ⌜ Same k (at v) (λ u. at (now (y .entry)) u ⊕ dot d (cells (now (rows .entry)) u) (at (now (r .entry)))) ⌝ }
 {
     let mut v = [0u8; 31];
     for u in 0..k {
-        v[u] = y[u] ^ dot(rows[u], r, d, t);
+        v[u] = y[u] ^ dot(&rows[u], r, d, t);
     }
     v
 }
@@ -47,8 +47,10 @@ fn rests(
     ensures { λ r. ⌜ Holds k k r (λ j u. cells (now (y .entry)) j u ⊕ dot d (cells (now (rows .entry)) u) (λ l. cells (now (far .entry)) l j)) ⌝ }
 {
     let mut g = [[0u8; 31]; 31];
+    let mut r = [0u8; 31];
     for j in 0..k {
-        g[j] = rest(rows, y[j], column(far, j, d), k, d, t);
+        column(far, j, d, &mut r);
+        g[j] = rest(rows, &y[j], &r, k, d, t);
     }
     g
 }

@@ -90,8 +90,8 @@ fn halves(
         let f = weights(others(xs, u, w), w);
         let q = part_q(r, rows, u, w, t);
         let p = part_p(r, q, rows[u][w], u, w, t);
-        h[u] = times(&f, p, w, w, t);
-        h[w + u] = times(&f, q, w, w, t);
+        times(&f, &p, w, w, t, &mut h[u]);
+        times(&f, &q, w, w, t, &mut h[w + u]);
     }
     h
 }

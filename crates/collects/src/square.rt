@@ -3,6 +3,7 @@ use crate::products::product;
 use field::Symbol;
 ghost use mathlib.Core.Path.{_≡_};
 ghost use Prim.Native.Nat.{_+_, _≤_, _<_};
+ghost use lib.ListN.{length};
 ghost use Rattle.field.specs.Tables.{tables};
 ghost use Rattle.algebra.specs.Symbol.{symbol, 𝟘};
 ghost use Rattle.algebra.specs.Sums.{Same, pick, dot, flip};
@@ -10,9 +11,9 @@ ghost use Rattle.algebra.specs.Bytes.{at};
 ghost use Rattle.collects.specs.Squares.{cells, Holds, Copied};
 
 // The sum of the products of n entries.
-pub fn dot(u: [u8; 31], v: [u8; 31], n: usize, t: &[u8; 768]) -> u8
+pub fn dot(u: &[u8; 31], v: &[u8; 31], n: usize, t: &[u8; 768]) -> u8
     requires { ⌜ (n ≤ 31) × (now t ≡ tables) ⌝ }
-    ensures { λ r. ⌜ symbol r ≡ dot n (at u) (at v) ⌝ }
+    ensures { λ r. ⌜ symbol r ≡ dot n (at (now (u .entry))) (at (now (v .entry))) ⌝ }
 {
     let mut sum: u8 = 0;
     for i in 0..n {
@@ -21,16 +22,14 @@ pub fn dot(u: [u8; 31], v: [u8; 31], n: usize, t: &[u8; 768]) -> u8
     sum
 }
 
-// The first n entries of the column j.
-pub fn column(g: &[[u8; 31]; 31], j: usize, n: usize) -> [u8; 31]
-    requires { ⌜ (j < 31) × (n ≤ 31) ⌝ }
-    ensures { λ r. ⌜ Same n (at r) (λ i. cells (now (g .entry)) i j) ⌝ }
+// The first n entries of the column j, into the row c.
+pub fn column(g: &[[u8; 31]; 31], j: usize, n: usize, c: &mut [u8; 31])
+    requires { ⌜ (j < 31) × (n ≤ 31) × (length (now c) ≡ 31) ⌝ }
+    ensures { λ _. ⌜ (length (now (c .exit)) ≡ 31) × Same n (at (now (c .exit))) (λ i. cells (now (g .entry)) i j) ⌝ }
 {
-    let mut c = [0u8; 31];
     for i in 0..n {
         c[i] = g[i][j];
     }
-    c
 }
 
 // Rows and columns exchanged, of the first n by n.
@@ -40,21 +39,19 @@ pub fn flip(g: &[[u8; 31]; 31], n: usize) -> [[u8; 31]; 31]
 {
     let mut f = [[0u8; 31]; 31];
     for j in 0..n {
-        f[j] = column(g, j, n);
+        column(g, j, n, &mut f[j]);
     }
     f
 }
 
-// The first m rows of f, each times the column y of n entries.
-pub fn times(f: &[[u8; 31]; 31], y: [u8; 31], m: usize, n: usize, t: &[u8; 768]) -> [u8; 31]
-    requires { ⌜ (m ≤ 31) × (n ≤ 31) × (now t ≡ tables) ⌝ }
-    ensures { λ r. ⌜ Same m (at r) (λ i. dot n (at y) (cells (now (f .entry)) i)) ⌝ }
+// The first m rows of f, each times the column y of n entries, into the row v.
+pub fn times(f: &[[u8; 31]; 31], y: &[u8; 31], m: usize, n: usize, t: &[u8; 768], v: &mut [u8; 31])
+    requires { ⌜ (m ≤ 31) × (n ≤ 31) × (length (now v) ≡ 31) × (now t ≡ tables) ⌝ }
+    ensures { λ _. ⌜ (length (now (v .exit)) ≡ 31) × Same m (at (now (v .exit))) (λ i. dot n (at (now (y .entry))) (cells (now (f .entry)) i)) ⌝ }
 {
-    let mut v = [0u8; 31];
     for i in 0..m {
-        v[i] = dot(y, f[i], n, t);
+        v[i] = dot(y, &f[i], n, t);
     }
-    v
 }
 
 // The same for each row of y from one row to another, as rows of a new square.
@@ -72,7 +69,7 @@ pub fn times_each(
 {
     let mut g = [[0u8; 31]; 31];
     for j in from..to {
-        g[j] = times(f, y[j], m, n, t);
+        times(f, &y[j], m, n, t, &mut g[j]);
     }
     g
 }

@@ -1,8 +1,8 @@
 -- `collects::collect` meets its contract: a refusal of the tests is handed on and nothing is written; else the message is gathered.
 -- Assumes nothing.
-use mathlib.Core.Path.{_≡_, _∙_, refl}
+use mathlib.Core.Path.{_∙_, refl}
 use native.Mathlib.Omega.{arith}
-use Rattle.collects.proofs.Collecting.{good-is, refused-from, refused-is, refused-stays, Passed, passed, done-is, done-writes}
+use Rattle.collects.proofs.Collecting.{good-is, refused-from, refused-is, refused-stays, passed, done-is, done-writes}
 use borrow.Author.Needs.{needs}
 use Rattle.collects.proofs.collect.Statement.{statement}
 use Rattle.collects.proofs.collect.Tie as tie

@@ -1,8 +1,7 @@
 -- `answering::answer_for` meets its contract: the file's faults first, then the answer's own.
 -- Assumes nothing.
-use mathlib.Core.Path.{_≡_, _∙_, refl, sym, ap, ap₂}
-use Prim.Native.Nat.{ℕ, _+_, _*_, _-_, _<_, _≤_}
-use native.Mathlib.Omega.{arith}
+use mathlib.Core.Path.{_∙_, sym, ap, ap₂}
+use Prim.Native.Nat.{ℕ, _*_, _-_}
 use borrow.Author.Tests.{not-true, not-false}
 use Rattle.shares.specs.Fields.{codeIn, stripeAt}
 use Rattle.shares.specs.File.{sayFiled, nodeTold, stripesTold}
@@ -13,7 +12,6 @@ use Rattle.codes.proofs.Told.{number-nonzero}
 use Rattle.stripes.specs.Lists.{within}
 use Rattle.shares.proofs.Ladder.{file-clear}
 use Rattle.shares.proofs.Accepted.{facts, good-count, good-value}
-use mathlib.Core.Bool.{true}
 use mathlib.Core.Path.{subst}
 use Rattle.books.specs.Answer.{answersFrom}
 use Rattle.books.proofs.Ladders.{answer-file, answer-output, answer-node, answer-repeat, answer-done}

@@ -1,6 +1,6 @@
 -- `answering::refused` meets its contract: a done answer is none.
 -- Assumes nothing.
-use mathlib.Core.Path.{_∙_, sym, ap}
+use mathlib.Core.Path.{sym, ap}
 use Rattle.shares.specs.File.{sayFiled}
 use Rattle.shares.specs.declared.Filed.{Filed}
 use borrow.Author.Needs.{needs}

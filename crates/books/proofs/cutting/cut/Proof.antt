@@ -1,14 +1,12 @@
 -- `cutting::cut` meets its contract: each refusal is the first reason that holds, and else the file is written.
 -- Assumes nothing.
-use mathlib.Core.Path.{_≡_, _∙_, refl, sym, ap, ap₂}
-use Prim.Native.Nat.{ℕ, _+_, _*_, _-_, _<_, _≤_}
+use mathlib.Core.Path.{_∙_, sym, ap}
+use Prim.Native.Nat.{ℕ, _*_, _-_}
 use native.Mathlib.Omega.{arith}
-use mathlib.Core.Bool.{not}
 use borrow.Author.Tests.{not-true, not-false}
 use Rattle.codes.specs.Sizes.{bytes}
 use Rattle.codes.specs.Judge.{sayJudged}
 use Rattle.codes.proofs.Sizes.{bytes-high, small}
-use Rattle.shares.specs.Fields.{stripeAt}
 use Rattle.books.proofs.Ladders.{cut-code, code-good, cut-rules, cut-total, cut-book, cut-output, cut-node, cut-done}
 use borrow.Author.Needs.{needs}
 use Rattle.books.proofs.cutting.cut.Statement.{statement}

@@ -1,23 +1,16 @@
 -- `collects::gather::read_off` meets its contract: before turn b, b symbols are written.
 -- Assumes nothing.
-use mathlib.Core.Path.{_≡_, _∙_, refl, sym, ap, ap₂}
-use mathlib.Core.List.{List, []}
+use mathlib.Core.Path.{_∙_, sym, ap, ap₂}
 use Prim.Native.Nat.{ℕ, _+_, _*_, _-_, _<_, _≤_}
 use native.Mathlib.Omega.{arith}
-use borrow.Author.Count.{below-none}
-use lib.ListN.{length, getD}
-use Rattle.algebra.specs.Symbol.{F, symbol, _⊕_, _⊗_, 𝟘, pow, inv}
-use Rattle.algebra.specs.Sums.{Vec, Grid, Same, pick, dot}
-use Rattle.algebra.specs.Bytes.{at}
-use Rattle.collects.specs.Squares.{cells, Holds, Solver, Copied}
-use mathlib.Core.Logic.{⊎-elim}
-use Rattle.algebra.specs.Bytes.{table}
+use Rattle.algebra.specs.Symbol.{symbol, inv}
+use Rattle.collects.specs.Squares.{cells}
 use Rattle.algebra.proofs.Ring.{val-symbol}
 use Rattle.codes.specs.Sizes.{alpha, bytes}
 use Rattle.codes.specs.Matrix.{lane, rowOf, colOf}
-use Rattle.codes.proofs.Sizes.{bytes-high, small}
+use Rattle.codes.proofs.Sizes.{bytes-high}
 use Rattle.rebuilds.proofs.Filling.{Filling, filling-none, filling-more, filling-whole}
-use Rattle.collects.proofs.Gathering.{CellAt, cell-at}
+use Rattle.collects.proofs.Gathering.{cell-at}
 use borrow.Author.Needs.{needs}
 use Rattle.collects.proofs.gather.read_off.Statement.{statement}
 use Rattle.collects.proofs.gather.read_off.Tie as tie

@@ -1,18 +1,11 @@
 -- `collects::gather::weights` meets its contract: the basis solutions give the solution for any values.
 -- Assumes nothing.
-use mathlib.Core.Path.{_≡_, _∙_, refl, sym, ap, ap₂}
-use mathlib.Core.List.{List, []}
-use Prim.Native.Nat.{ℕ, _+_, _*_, _-_, _<_, _≤_}
+use mathlib.Core.Path.{_∙_, refl, ap}
+use mathlib.Core.List.{List}
+use Prim.Native.Nat.{ℕ, _-_}
 use native.Mathlib.Omega.{arith}
-use borrow.Author.Count.{below-none}
-use lib.ListN.{length, getD}
-use Rattle.algebra.specs.Symbol.{F, symbol, _⊕_, _⊗_, 𝟘, pow, inv}
-use Rattle.algebra.specs.Sums.{Vec, Grid, Same, pick, dot}
-use Rattle.algebra.specs.Bytes.{at}
-use Rattle.collects.specs.Squares.{cells, Holds, Solver, Copied}
-use Rattle.algebra.specs.Poly.{interp}
+use Rattle.collects.specs.Squares.{cells}
 use Rattle.algebra.proofs.Sums.{dot-same}
-use Rattle.solver.specs.Basis.{basisOf}
 use Rattle.solver.proofs.Solutions.{basis-any}
 use borrow.Author.Needs.{needs}
 use Rattle.collects.proofs.gather.weights.Statement.{statement}

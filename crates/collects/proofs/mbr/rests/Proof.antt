@@ -1,15 +1,13 @@
 -- `collects::mbr::rests` meets its contract: before turn j, j columns are done.
 -- Assumes nothing.
-use mathlib.Core.Path.{_≡_, _∙_, refl, sym, ap, ap₂}
-use mathlib.Core.List.{List, []}
-use Prim.Native.Nat.{ℕ, _+_, _*_, _-_, _<_, _≤_}
+use mathlib.Core.Path.{_≡_, _∙_, refl, ap}
+use Prim.Native.Nat.{_-_, _≤_}
 use native.Mathlib.Omega.{arith}
 use borrow.Author.Count.{below-none}
-use lib.ListN.{length, getD}
-use Rattle.algebra.specs.Symbol.{F, symbol, _⊕_, _⊗_, 𝟘, pow, inv}
-use Rattle.algebra.specs.Sums.{Vec, Grid, Same, pick, dot}
-use Rattle.algebra.specs.Bytes.{at}
-use Rattle.collects.specs.Squares.{cells, Holds, Solver, Copied}
+use lib.ListN.{length}
+use Rattle.algebra.specs.Symbol.{F, _⊕_, inv}
+use Rattle.algebra.specs.Sums.{dot}
+use Rattle.collects.specs.Squares.{cells, Holds}
 use Rattle.algebra.proofs.Sums.{dot-same}
 use Rattle.collects.proofs.Squares.{holds-store}
 use borrow.Author.Needs.{needs}
@@ -17,20 +15,20 @@ use Rattle.collects.proofs.mbr.rests.Statement.{statement}
 use Rattle.collects.proofs.mbr.rests.Tie as tie
 
 abbrev Inv-loop : tie.InvT-loop
-Inv-loop rows y far k d t g₀ j₀ g j =
-    (j ≤ k) × (length g ≡ 31) × Holds j k g (λ e u. cells y e u ⊕ dot d (cells rows u) (λ l. cells far l e))
+Inv-loop rows y far k d t g₀ r₀ j₀ g r j =
+    (j ≤ k) × (length g ≡ 31) × (length r ≡ 31) × Holds j k g (λ e u. cells y e u ⊕ dot d (cells rows u) (λ l. cells far l e))
 
 abbrev μ-loop : tie.MeasureT-loop
-μ-loop rows y far k d t g₀ j₀ g j = k - j
+μ-loop rows y far k d t g₀ r₀ j₀ g r j = k - j
 
 loop-holds : tie.Need-loop-holds Inv-loop μ-loop
-loop-holds c = (search needs, search needs, below-none _)
+loop-holds c = (search needs, search needs, search needs, below-none _)
 
 mul-rest : tie.Need-mul-rest Inv-loop μ-loop
 mul-rest c = search needs
 
-element-copy-out-rest : tie.Need-element-copy-out-rest Inv-loop μ-loop
-element-copy-out-rest c = search needs
+index-1-rest : tie.Need-index-1-rest Inv-loop μ-loop
+index-1-rest c = search needs
 
 column-requires : tie.Need-column-requires Inv-loop μ-loop
 column-requires c κs = search needs
@@ -52,17 +50,19 @@ loop-less c = search needs
 
 loop-again : tie.Need-loop-again Inv-loop μ-loop
 loop-again c =
-    let l = c .before .before .before .before .loop in
-    let s = c .before .before .before .before .before .args in (
+    let l = c .before .before .before .before .before .before .loop in
+    let s = c .before .before .before .before .before .before .before .args in
+    let e = c .before .before .before .column .ensures in (
       search needs,
       search needs,
-      holds-store (l .g) (c .rest .result) (search needs) (l .inv .2)
+      e .0,
+      holds-store (l .g) (c .rest .result) (search needs) (l .inv .3)
           (λ u h. c .rest .ensures u h
-          ∙ ap (λ (x : F). cells (s .y .now) (l .j) u ⊕ x) (dot-same (s .d) (λ e m. refl) (λ e m. c .before .column .ensures e (omega arith)))),
+          ∙ ap (λ (x : F). cells (s .y .now) (l .j) u ⊕ x) (dot-same (s .d) (λ i m. refl) (λ i m. e .1 i (omega arith)))),
     )
 
 returns : tie.Need-returns Inv-loop μ-loop
-returns c = λ i h. c .before .loop .inv .2 i (omega arith)
+returns c = λ i h. c .before .loop .inv .3 i (omega arith)
 
 pub rests-spec : {M : Type 1} → statement M
 rests-spec =
@@ -71,9 +71,9 @@ rests-spec =
     Inv-loop
     μ-loop
     loop-holds
-    mul-rest
-    element-copy-out-rest
     column-requires
+    mul-rest
+    index-1-rest
     rest-requires
     mul-g
     array-set-from-g

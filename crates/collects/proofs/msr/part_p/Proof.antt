@@ -1,17 +1,15 @@
 -- `collects::msr::part_p` meets its contract: before turn i, i entries are parted.
 -- Assumes nothing.
-use mathlib.Core.Path.{_≡_, _∙_, refl, sym, ap, ap₂}
-use mathlib.Core.List.{List, []}
-use Prim.Native.Nat.{ℕ, _+_, _*_, _-_, _<_, _≤_}
+use mathlib.Core.Path.{_≡_, _∙_, ap, ap₂}
+use mathlib.Core.List.{[]}
+use Prim.Native.Nat.{_-_, _≤_}
 use native.Mathlib.Omega.{arith}
 use borrow.Author.Count.{below-none}
 use lib.ListN.{length, getD}
-use Rattle.algebra.specs.Symbol.{F, symbol, _⊕_, _⊗_, 𝟘, pow, inv}
-use Rattle.algebra.specs.Sums.{Vec, Grid, Same, pick, dot}
+use Rattle.algebra.specs.Symbol.{symbol, _⊕_, _⊗_, inv}
+use Rattle.algebra.specs.Sums.{Same}
 use Rattle.algebra.specs.Bytes.{at}
-use Rattle.collects.specs.Squares.{cells, Holds, Solver, Copied}
-use lib.Bits.{bitXor}
-use Rattle.field.specs.Field.{mul}
+use Rattle.collects.specs.Squares.{cells}
 use Rattle.algebra.specs.Frame.{skip}
 use Rattle.algebra.proofs.Ring.{symbol-add, symbol-mul}
 use Rattle.collects.proofs.Squares.{same-store}

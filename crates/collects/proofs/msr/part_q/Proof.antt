@@ -1,17 +1,16 @@
 -- `collects::msr::part_q` meets its contract: before turn i, i entries are parted.
 -- Assumes nothing.
-use mathlib.Core.Path.{_≡_, _∙_, refl, sym, ap, ap₂}
-use mathlib.Core.List.{List, []}
-use Prim.Native.Nat.{ℕ, _+_, _*_, _-_, _<_, _≤_}
+use mathlib.Core.Path.{_≡_, _∙_, ap}
+use Prim.Native.Nat.{_-_, _≤_}
 use native.Mathlib.Omega.{arith}
 use borrow.Author.Count.{below-none}
-use lib.ListN.{length, getD}
-use Rattle.algebra.specs.Symbol.{F, symbol, _⊕_, _⊗_, 𝟘, pow, inv}
-use Rattle.algebra.specs.Sums.{Vec, Grid, Same, pick, dot}
+use lib.ListN.{length}
+use Rattle.algebra.specs.Symbol.{inv}
+use Rattle.algebra.specs.Sums.{Same}
 use Rattle.algebra.specs.Bytes.{at}
-use Rattle.collects.specs.Squares.{cells, Holds, Solver, Copied}
+use Rattle.collects.specs.Squares.{cells}
 use Rattle.algebra.specs.Frame.{skip}
-use Rattle.algebra.specs.Hollow.{first, second}
+use Rattle.algebra.specs.Hollow.{second}
 use Rattle.collects.specs.Gather.{factors}
 use Rattle.collects.proofs.Squares.{same-store}
 use Rattle.collects.proofs.Gathering.{second-at}

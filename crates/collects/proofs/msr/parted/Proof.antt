@@ -1,18 +1,13 @@
 -- `collects::msr::parted` meets its contract. Sums of bytes are bytes, so the table has their quotient.
 -- Assumes nothing.
-use mathlib.Core.Path.{_≡_, _∙_, refl, sym, ap, ap₂}
-use mathlib.Core.List.{List, []}
-use Prim.Native.Nat.{ℕ, _+_, _*_, _-_, _<_, _≤_}
+use mathlib.Core.Path.{_∙_, ap, ap₂}
+use mathlib.Core.List.{List}
+use Prim.Native.Nat.{ℕ, _-_}
 use native.Mathlib.Omega.{arith}
-use borrow.Author.Count.{below-none}
-use lib.ListN.{length, getD}
-use Rattle.algebra.specs.Symbol.{F, symbol, _⊕_, _⊗_, 𝟘, pow, inv}
-use Rattle.algebra.specs.Sums.{Vec, Grid, Same, pick, dot}
-use Rattle.algebra.specs.Bytes.{at}
-use Rattle.collects.specs.Squares.{cells, Holds, Solver, Copied}
+use Rattle.algebra.specs.Symbol.{F, symbol, _⊗_, inv}
 use lib.Bits.{bitXor, xor-lt}
 use Rattle.field.specs.Field.{quotient}
-use Rattle.field.specs.Tables.{tables, overTable}
+use Rattle.field.specs.Tables.{overTable}
 use Rattle.field.proofs.Laws.{over-tables}
 use Rattle.algebra.proofs.Ring.{symbol-add, symbol-over}
 use borrow.Author.Needs.{needs}

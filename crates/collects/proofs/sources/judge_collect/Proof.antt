@@ -4,7 +4,6 @@ use mathlib.Core.Path.{_≡_, _∙_, sym}
 use mathlib.Core.Bool.{true, false}
 use borrow.Author.Tests.{not-true, not-false}
 use Rattle.codes.specs.Judge.{judged}
-use Rattle.codes.specs.Told.{done}
 use Rattle.codes.proofs.Rules.{rules}
 use Rattle.stripes.specs.Lists.{every, repeats, differ, within}
 use Rattle.rebuilds.proofs.Answers.{by-judge, by-length, by-node, by-repeat, by-mixed, by-none}

@@ -1,13 +1,13 @@
 -- `collects::square::column` meets its contract: before place i the row holds i entries of the column.
 -- Assumes nothing.
 use mathlib.Core.Path.{_≡_, refl}
-use Prim.Native.Nat.{ℕ, _+_, _-_, _<_, _≤_}
+use Prim.Native.Nat.{_-_, _<_, _≤_}
 use native.Mathlib.Omega.{arith}
 use borrow.Author.Count.{below-none}
 use lib.ListN.{length}
 use Rattle.algebra.specs.Sums.{Same}
 use Rattle.algebra.specs.Bytes.{at}
-use Rattle.collects.specs.Squares.{cells, Holds, Copied}
+use Rattle.collects.specs.Squares.{cells}
 use Rattle.collects.proofs.Squares.{same-store}
 use borrow.Author.Needs.{needs}
 use Rattle.collects.proofs.square.column.Statement.{statement}
@@ -31,8 +31,8 @@ index-1-c c = search needs
 index-2-c : tie.Need-index-2-c Inv-loop μ-loop
 index-2-c c = search needs
 
-array-write-c : tie.Need-array-write-c Inv-loop μ-loop
-array-write-c c = search needs
+element-write-c : tie.Need-element-write-c Inv-loop μ-loop
+element-write-c c = search needs
 
 add-i : tie.Need-add-i Inv-loop μ-loop
 add-i c = search needs
@@ -45,7 +45,7 @@ loop-again c =
     let l = c .before .before .loop in (search needs, search needs, search needs, search needs, same-store (l .c) _ (omega (arith, l .inv .3)) (l .inv .4) refl)
 
 returns : tie.Need-returns Inv-loop μ-loop
-returns c = λ i h. c .before .loop .inv .4 i (omega arith)
+returns c = (c .before .loop .inv .3, λ i h. c .before .loop .inv .4 i (omega arith))
 
 pub column-spec : {M : Type 1} → statement M
 column-spec =
@@ -57,7 +57,7 @@ column-spec =
     mul-c
     index-1-c
     index-2-c
-    array-write-c
+    element-write-c
     add-i
     loop-less
     loop-again

@@ -1,12 +1,11 @@
 -- `collects::square::copy_rows` meets its contract: before turn i, i rows are copied.
 -- Assumes nothing.
-use mathlib.Core.Path.{_≡_, refl}
-use Prim.Native.Nat.{ℕ, _+_, _-_, _<_, _≤_}
+use mathlib.Core.Path.{_≡_}
+use Prim.Native.Nat.{_-_, _≤_}
 use native.Mathlib.Omega.{arith}
 use lib.ListN.{length}
-use Rattle.algebra.specs.Sums.{Same}
 use Rattle.algebra.specs.Bytes.{at}
-use Rattle.collects.specs.Squares.{cells, Holds, Copied}
+use Rattle.collects.specs.Squares.{Copied}
 use Rattle.collects.proofs.Squares.{copied-none, copied-store}
 use borrow.Author.Needs.{needs}
 use Rattle.collects.proofs.square.copy_rows.Statement.{statement}

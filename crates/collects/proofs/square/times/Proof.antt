@@ -1,15 +1,14 @@
 -- `collects::square::times` meets its contract: before turn i, i entries are products.
 -- Assumes nothing.
-use mathlib.Core.Path.{_≡_, _∙_, refl, sym, ap, ap₂}
-use mathlib.Core.List.{List, []}
-use Prim.Native.Nat.{ℕ, _+_, _*_, _-_, _<_, _≤_}
+use mathlib.Core.Path.{_≡_}
+use Prim.Native.Nat.{_-_, _≤_}
 use native.Mathlib.Omega.{arith}
 use borrow.Author.Count.{below-none}
-use lib.ListN.{length, getD}
-use Rattle.algebra.specs.Symbol.{F, symbol, _⊕_, _⊗_, 𝟘, pow, inv}
-use Rattle.algebra.specs.Sums.{Vec, Grid, Same, pick, dot}
+use lib.ListN.{length}
+use Rattle.algebra.specs.Symbol.{inv}
+use Rattle.algebra.specs.Sums.{Same, dot}
 use Rattle.algebra.specs.Bytes.{at}
-use Rattle.collects.specs.Squares.{cells, Holds, Solver, Copied}
+use Rattle.collects.specs.Squares.{cells}
 use Rattle.collects.proofs.Squares.{same-store}
 use borrow.Author.Needs.{needs}
 use Rattle.collects.proofs.square.times.Statement.{statement}
@@ -27,14 +26,14 @@ loop-holds c = (search needs, search needs, below-none _)
 mul-dot : tie.Need-mul-dot Inv-loop μ-loop
 mul-dot c = search needs
 
-element-copy-out-dot : tie.Need-element-copy-out-dot Inv-loop μ-loop
-element-copy-out-dot c = search needs
+index-1-dot : tie.Need-index-1-dot Inv-loop μ-loop
+index-1-dot c = search needs
 
 dot-requires : tie.Need-dot-requires Inv-loop μ-loop
 dot-requires c κs = search needs
 
-array-write-v : tie.Need-array-write-v Inv-loop μ-loop
-array-write-v c = search needs
+element-write-v : tie.Need-element-write-v Inv-loop μ-loop
+element-write-v c = search needs
 
 add-i : tie.Need-add-i Inv-loop μ-loop
 add-i c = search needs
@@ -48,7 +47,7 @@ loop-again c =
     (search needs, search needs, same-store (l .v) (c .dot .result) (search needs) (l .inv .2) (c .dot .ensures))
 
 returns : tie.Need-returns Inv-loop μ-loop
-returns c = λ i h. c .before .loop .inv .2 i (omega arith)
+returns c = (c .before .loop .inv .1, λ i h. c .before .loop .inv .2 i (omega arith))
 
 pub times-spec : {M : Type 1} → statement M
 times-spec =
@@ -58,9 +57,9 @@ times-spec =
     μ-loop
     loop-holds
     mul-dot
-    element-copy-out-dot
+    index-1-dot
     dot-requires
-    array-write-v
+    element-write-v
     add-i
     loop-less
     loop-again
