@@ -1,5 +1,7 @@
 -- Our operations on share files and books meet demand 1: demand1-judge-file, demand1-take-slip, demand1-cut, demand1-answer-for.
 --   below-says, stands-says, total-says, stripe-says      the tests of a share file and the words for them
+--   bears, fileNode, fileStripes      what the judge names: the node and the stripe total that its promise cites
+--   judge-file-meets  and so does any judge that keeps our judge's promise
 --   file-tells        what an operation on a share file tells, by its own reasons after the file's
 --   total-tells       what an operation on a code and a stripe total tells, by its own reasons after theirs
 -- Assumes nothing.
@@ -10,24 +12,26 @@ use mathlib.Core.List.{List, [], _∷_, _++_}
 use Prim.Native.Nat.{ℕ, zero, suc, _+_, _*_, _≤_}
 use native.Mathlib.Nat.{not-suc-le-zero}
 use native.Mathlib.Omega.{arith}
-use borrow.Author.Tests.{eqb-true, eqb-false, ltb-false, le-ltb, not-true}
+use borrow.Author.Tests.{eqb-true, eqb-false, eq-eqb, ne-eqb, ltb-false, le-ltb, not-true}
 use lib.Dec.{eqb, leb, ltb}
 use lib.ListN.{length, getD}
 use Rattle.records.specs.Kinds.{bodyOf}
 use Rattle.records.specs.Numbers.{numberAt}
 use Rattle.records.specs.Reading.{whole, wholeAs}
 use Rattle.records.proofs.Whole.{stands, is-whole, same}
-use Rattle.codes.specs.Told.{Reason, _when_, refusal, answered}
+use Rattle.codes.specs.Told.{Told, Reason, _when_, refusal, answered}
 use Rattle.codes.specs.Reasons.{numbered}
 use Rattle.codes.specs.Rules.{Sized}
 use Rattle.codes.specs.Sizes.{alpha, bytes}
 use Rattle.codes.specs.Judge.{sized, judgeReasons, pairIn}
 use Rattle.codes.specs.declared.Code.{Code}
 use Rattle.codes.proofs.Bools.{apart, by-test, and-left, and-right}
-use Rattle.codes.proofs.Told.{refusal-skip, refusal-stop}
+use Rattle.codes.proofs.Told.{refusal-skip, refusal-stop, answered-number}
 use Rattle.stripes.specs.Lists.{within}
 use Rattle.shares.specs.Fields.{codeIn, nodeIn, stripesIn, countIn, stripeAt}
-use Rattle.shares.specs.File.{below, zeroPast, spare, stripeGood, totalled, nodeReasons, fileReasons, fileTold}
+use Rattle.shares.specs.File.{below, zeroPast, spare, stripeGood, totalled, nodeReasons, fileReasons, fileTold, given, sayFiled, nodeTold, stripesTold}
+use Rattle.shares.specs.File as share-file
+use Rattle.shares.specs.declared.Filed.{Filed}
 use Rattle.shares.specs.Slip.{slipNumber, slipStripe, slipIndex, slipFaults, slipReasons, slipTold, leftBy, takenIn, slipLeaves}
 use Rattle.shares.specs.Total.{codeReasons}
 use Rattle.shares.specs.Afresh.{afresh}
@@ -36,7 +40,7 @@ use Rattle.books.specs.Answer.{answersFrom, answerReasons, answerTold, answerLe
 use Rattle.demands.specs.Words.{Word, None}
 use Rattle.demands.specs.Judge.{codeWords}
 use Rattle.demands.specs.Answer.{Tells}
-use Rattle.demands.specs.Files.{Some, Stands, TotalOff, Beyond, StripeOff, nodeWords, fileWords, fileNumbers, slipWords, cutWords, answerWords, Demand1-judge-file, Demand1-take-slip, Demand1-cut, Demand1-answer-for}
+use Rattle.demands.specs.Files.{Some, Stands, TotalOff, Beyond, StripeOff, nodeWords, fileWords, fileNumbers, slipWords, cutWords, answerWords, Bears, Demand1-judge-file, Demand1-take-slip, Demand1-cut, Demand1-answer-for}
 use Rattle.demands.proofs.Says.{Says, says-by, not-says, or-says, off-says, eqb-says, leb-off}
 use Rattle.demands.proofs.Inputs.{lengths-says, outside-says}
 use Rattle.demands.proofs.Words.{Matches, end, step, numbersOf, unpaired, no-four}
@@ -133,9 +137,43 @@ module _ (s : List ℕ) (more : List Reason) (ws : List Word) where
       tells (codeIn s) (fileReasons s ++ more) (fileWords s ++ ws) Val v k
       (λ e. judge-names (codeIn s) (nodeReasons s ++ more) (no-four (nodeReasons s ++ more) u) (past 1 _ _ (λ z. omega arith) e)) (file-matches m) f
 
-pub demand1-judge-file : Demand1-judge-file fileTold
+bears : (rs : List Reason) (p : ℕ × ℕ) (v own : ℕ) → Bears (answered rs p v .number) own (given rs own)
+unfolding given
+bears rs p v own =
+    let n = answered-number rs p v in
+    record {
+      accepted = λ e. simp (eq-eqb (refusal rs) 0 (sym n ∙ e));
+      refused = λ z. simp (ne-eqb (refusal rs) 0 (λ e. z (n ∙ e)));
+    }
+
+abbrev pub fileNode : List ℕ → ℕ
+fileNode s = given (fileReasons s) (nodeIn s)
+
+abbrev pub fileStripes : List ℕ → ℕ
+fileStripes s = given (fileReasons s) (stripesIn s)
+
+pub demand1-judge-file : Demand1-judge-file fileTold fileNode fileStripes
 unfolding fileTold fileReasons judgeReasons nodeReasons
-demand1-judge-file s = file-tells s [] [] (λ x. x ≡ countIn s) (countIn s) refl refl end (λ _. refl)
+demand1-judge-file = record {
+  answer = λ s. file-tells s [] [] (λ x. x ≡ countIn s) (countIn s) refl refl end (λ _. refl);
+  noded = λ s. bears (fileReasons s) (pairIn (codeIn s)) (countIn s) (nodeIn s);
+  striped = λ s. bears (fileReasons s) (pairIn (codeIn s)) (countIn s) (stripesIn s);
+}
+
+-- the promise fixes the answer, and the node and the total that it names
+module _ (judge : List ℕ → Filed) (keeps : (s : List ℕ) → share-file.Says (fileReasons s) s (judge s)) where
+  said : (s : List ℕ) → fileTold s ≡ sayFiled (judge s)
+  unfolding fileTold
+  said s = sym (keeps s .answer)
+
+  pub judge-file-meets : Demand1-judge-file (λ s. sayFiled (judge s)) (λ s. nodeTold (judge s)) (λ s. stripesTold (judge s))
+  judge-file-meets = record {
+    answer = λ s. subst (Tells (codeIn s) (fileWords s) (fileNumbers []) (λ x. x ≡ countIn s)) (said s) (demand1-judge-file .answer s);
+    noded = λ s. subst (λ (t : Told). Bears (t .number) (nodeIn s) (nodeTold (judge s))) (said s)
+        (subst (Bears (fileTold s .number) (nodeIn s)) (sym (keeps s .node)) (demand1-judge-file .noded s));
+    striped = λ s. subst (λ (t : Told). Bears (t .number) (stripesIn s) (stripesTold (judge s))) (said s)
+        (subst (Bears (fileTold s .number) (stripesIn s)) (sym (keeps s .stripes)) (demand1-judge-file .striped s));
+  }
 
 pub demand1-take-slip : Demand1-take-slip slipTold slipLeaves
 unfolding slipTold slipLeaves slipReasons slipFaults leftBy

@@ -1,11 +1,12 @@
 -- Demand 1 fixes what an operation on a stripe tells and leaves: whatever meets it tells and leaves what ours does.
 --   names-only, told-same       what refusal 4 names, and all that is told, by its parts
 --   fixed-told, fixed-left      what is told, and what is left, once for every operation
+--   given                       a value that is given by an equation
 --   encode-fixed, help-fixed, rebuild-fixed, collect-fixed      of each
 -- Assumes nothing.
 use mathlib.Core.Path.{_≡_, _∙_, sym, ap₂, subst}
 use mathlib.Core.Logic.{inl, inr}
-use mathlib.Core.List.{List, _++_}
+use mathlib.Core.List.{List}
 use Prim.Native.Nat.{ℕ, _≤_}
 use native.Mathlib.Omega.{arith}
 use lib.Dec.{eqb}
@@ -18,8 +19,8 @@ use Rattle.stripes.specs.Help.{helped}
 use Rattle.rebuilds.specs.Rebuild.{rebuildTold, rebuildLeaves}
 use Rattle.collects.specs.Collect.{collectTold, collectLeaves}
 use Rattle.demands.specs.Words.{Word}
-use Rattle.demands.specs.Judge.{Offends, Names, judgeWords}
-use Rattle.demands.specs.Answer.{Answers, Leaves}
+use Rattle.demands.specs.Judge.{Offends, Names}
+use Rattle.demands.specs.Answer.{Tells, Leaves}
 use Rattle.demands.specs.Stripes.{Demand1-encode, Demand1-help, Demand1-rebuild, Demand1-collect}
 use Rattle.demands.proofs.Inputs.{common-one}
 use Rattle.demands.proofs.Words.{decided-only}
@@ -46,9 +47,9 @@ told-same t u n p v =
     ∙ ap₂ {C = Told} (λ (x y : ℕ). record { number = u .number; first = x; second = y; value = u .value }) (p .0) (p .1)
 
 module _ (c : Code) (ws : List Word) (ns : List ℕ) (Val : ℕ → Type 0) (one : (a b : ℕ) → Val a → Val b → a ≡ b) (t u : Told) where
-  pub fixed-told : Answers c ws ns Val t → Answers c ws ns Val u → t ≡ u
+  pub fixed-told : Tells c ws ns Val t → Tells c ws ns Val u → t ≡ u
   fixed-told a b =
-      let n : t .number ≡ u .number = decided-only (judgeWords c ++ ws) (t .number) (u .number) (a .decided) (b .decided) in
+      let n : t .number ≡ u .number = decided-only ws (t .number) (u .number) (a .decided) (b .decided) in
       told-same t u n
       (by-test (eqb (t .number) 4)
       (λ e. let f = eqb-true _ _ e in names-only c _ _ _ _ (a .named f) (b .named (sym n ∙ f)))
@@ -64,7 +65,7 @@ fixed-left t u s before whole x y a b =
     (λ e. let z = eqb-false _ _ e in a .kept z ∙ sym (b .kept (λ f. z (n ∙ f))))
 
 -- a value that is given by an equation
-given : (w a b : ℕ) → a ≡ w → b ≡ w → a ≡ b
+pub given : (w a b : ℕ) → a ≡ w → b ≡ w → a ≡ b
 given w a b x y = x ∙ sym y
 
 module _ (tells : Code → ℕ → List ℕ → List ℕ → Told) (leaves : Code → ℕ → List ℕ → List ℕ → List ℕ) (d : Demand1-encode tells leaves) where

@@ -25,6 +25,9 @@ use Rattle.codes.proofs.Bools.{by-test, and-left, and-right}
 use Rattle.codes.proofs.Sizes.{alpha-high}
 use Rattle.codes.proofs.Told.{answered-number}
 use Rattle.stripes.specs.Lists.{within}
+use Rattle.stripes.specs.Encode.{encoded, encodeLeaves}
+use Rattle.rebuilds.specs.Rebuild.{rebuildTold, rebuildLeaves}
+use Rattle.collects.specs.Collect.{collectTold, collectLeaves}
 use Rattle.shares.specs.Fields.{helpRecord, countIn, shareIn}
 use Rattle.shares.specs.Slip.{slipTold, slipLeaves, leftBy}
 use Rattle.shares.specs.Afresh.{stripeOf, afresh, amended, amendedBy}
@@ -34,7 +37,8 @@ use Rattle.books.specs.Cut.{cutTold, cutLeaves}
 use Rattle.books.specs.Answer.{answerTold, answerLeaves}
 use Rattle.batches.specs.Batch.{batchTold, batchLeaves}
 use Rattle.batches.specs.Whole.{wholeTold, wholeLeaves}
-use Rattle.demands.specs.History.{ours, Setting, Fair, slipAt, recordAt, bookAt, freshAt, Slot, lost, holds, World, putIn, firstWorld, fileOf, onFile, joined, helpOf, batchesOf, Call, slip, cut, answer, batch, whole, tells, leaves, Event, deliver, refuse, lose, rebuild, after, Helped, Allowed, Reached, first, then, Touched, Kept, Renewed, Demand3}
+use Rattle.corkpaddle.specs.Help.{helpTold, helpLeaves}
+use Rattle.demands.specs.History.{ours, Setting, Fair, slipAt, recordAt, bookAt, freshAt, Slot, lost, holds, World, putIn, firstWorld, fileOf, onFile, joined, helpOf, batchesOf, Call, slip, encode, help, restore, collect, cut, answer, batch, whole, tells, leaves, Event, deliver, refuse, lose, rebuild, after, Helped, Allowed, Reached, first, then, Touched, Kept, Renewed, Demand3}
 use Rattle.demands.proofs.Books.{amended-more, amended-all}
 use Rattle.demands.proofs.Joined.{joined-same}
 use Rattle.demands.proofs.Taken.{take-next, take-other, take-only}
@@ -47,8 +51,12 @@ left : (rs : List Reason) (p : ℕ × ℕ) (v : ℕ) (new old : List ℕ) → an
 left rs p v new old z = sym (left-refused rs new old (λ e. z (answered-number rs p v ∙ e)))
 
 pub stays : (x : Call) (s : List ℕ) → tells ours x s .number ≢ 0 → leaves ours x s ≡ s
-unfolding slipTold slipLeaves cutTold cutLeaves answerTold answerLeaves batchTold batchLeaves wholeTold wholeLeaves leftBy
+unfolding slipTold slipLeaves encoded encodeLeaves helpTold helpLeaves rebuildTold rebuildLeaves collectTold collectLeaves cutTold cutLeaves answerTold answerLeaves batchTold batchLeaves wholeTold wholeLeaves leftBy
 stays (slip p) s z = left _ _ _ _ s z
+stays (encode c v m) s z = left _ _ _ _ s z
+stays (help c h f u) s z = left _ _ _ _ s z
+stays (restore c f hs ys ns) s z = left _ _ _ _ s z
+stays (collect c vs ns r) s z = left _ _ _ _ s z
 stays (cut c v t book) s z = left _ _ _ _ s z
 stays (answer u f) s z = left _ _ _ _ s z
 stays (batch c f b) s z = left _ _ _ _ s z

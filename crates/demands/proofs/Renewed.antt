@@ -10,14 +10,11 @@ use Prim.Native.Nat.{ℕ, zero, suc, _+_, _*_, _<_, _≤_}
 use native.Mathlib.Omega.{arith}
 use borrow.Author.Tests.{eq-eqb, le-leb}
 use lib.ListN.{length, getD}
-use Rattle.algebra.specs.Sums.{Vec}
-use Rattle.algebra.proofs.Bytes.{table-length, table-at}
 use Rattle.codes.specs.Told.{Reason, done, refusal}
 use Rattle.codes.specs.Reasons.{Clear}
 use Rattle.codes.specs.Rules.{Rules, Chosen}
 use Rattle.codes.specs.Judge.{judgeReasons, pairIn}
-use Rattle.codes.specs.Share.{share, symbolFor, symbolsFor}
-use Rattle.codes.specs.Rebuild.{rebuilt}
+use Rattle.codes.specs.Share.{share, symbolFor}
 use Rattle.codes.specs.declared.Code.{Code}
 use Rattle.codes.proofs.Bools.{both}
 use Rattle.codes.proofs.Told.{clear, clear-done}
@@ -30,9 +27,9 @@ use Rattle.shares.proofs.Accepted.{clear-append, code-clear}
 use Rattle.batches.specs.Batch.{countAt, rebuiltRecord}
 use Rattle.batches.specs.Whole.{batchOf, turnFaults, faultsFrom, recordsFrom, wholeReasons, wholeTold, wholeLeaves}
 use Rattle.demands.specs.History.{joined}
-use Rattle.demands.specs.Rebuild.{rebuild-share}
 use Rattle.demands.proofs.Joined.{joined-whole, joined-part, joined-byte, number-same}
 use Rattle.demands.proofs.Helpers
+use Rattle.demands.proofs.HonestBatch
 
 pub total-clear : (c : Code) (bad : Bool) → Rules c → bad ≡ false → Clear (codeReasons c bad)
 unfolding codeReasons judgeReasons
@@ -54,7 +51,7 @@ module _ {c : Code} (R : Rules c) (f t m : ℕ) (book : List ℕ) (few : 1 ≤ t
   known = both _ _ (le-leb 1 f first) (le-leb f (c .n) last)
 
   some : 0 < c .d
-  some = omega (arith, R .least, R .order)
+  some = HonestBatch.some-helpers R
 
   batch-long : (i : ℕ) → i < t → length (Batch i) ≡ c .d * 10
   batch-long i h = Helpers.records-long c f m i (hs i) (Symbol i)
@@ -96,14 +93,7 @@ module _ {c : Code} (R : Rules c) (f t m : ℕ) (book : List ℕ) (few : 1 ≤ t
   -- ---- what is given
 
   record-is : (i : ℕ) → i < t → rebuiltRecord c f (Batch i) ≡ stripeRecord i (share c f (stripeOf c book i))
-  record-is i h =
-      let msg = stripeOf c book i in
-      let sent = symbolsFor c f (hs i) msg in
-      let g : Vec = λ r. symbolFor c f (share c (getD (hs i) r 0) msg) in
-      ap₂ stripeRecord (Helpers.stripe-said c f m i (hs i) (Symbol i) (omega arith) 0 some)
-      (ap₂ (rebuilt c f) (Helpers.helpers-said c f m i (hs i) (Symbol i) (chosen i h .long))
-      (Helpers.symbols-said c f m i (hs i) (Symbol i) sent (table-length (c .d) g) (λ r l. sym (table-at (c .d) g r l)))
-      ∙ rebuild-share R (chosen i h) f msg)
+  record-is i h = HonestBatch.record-is R f m i (hs i) (stripeOf c book i) (omega arith) (chosen i h)
 
   records-are : (i n : ℕ) → i + n ≤ t → recordsFrom c f Batches i n ≡ stripesFrom c f book i n
   unfolding recordsFrom stripesFrom

@@ -7,6 +7,7 @@
 --   fileWords s               the reasons for refusing the share file s: C, the code, N, each D in turn, and what follows the last
 --   slipWords s p             a slip's own reasons, after the file's
 --   cutWords, answerWords     those of cutting a book after the code's, and of an answer for the failed node f after the file's
+--   Bears n own x             x is what demand 1 asks a judge's answer n to name: the file's own number where it is done, else 0
 --   Demand1-judge-file, Demand1-take-slip, Demand1-cut, Demand1-answer-for     demand 1 of each
 -- Assumes nothing.
 use mathlib.Core.Path.{_≡_}
@@ -83,8 +84,15 @@ answerWords s f o =
     ∷ (7 because (f ≡ nodeIn s))
     ∷ []
 
-abbrev pub Demand1-judge-file : (List ℕ → Told) → Type 0
-Demand1-judge-file tells = (s : List ℕ) → Tells (codeIn s) (fileWords s) (fileNumbers []) (λ x. x ≡ countIn s) (tells s)
+pub record Bears (number own borne : ℕ) : Type 0 where
+  pub accepted : number ≡ 0 → borne ≡ own
+  pub refused : number ≢ 0 → borne ≡ 0
+
+-- the judge of a share file also names the file's node and its stripe total
+pub record Demand1-judge-file (tells : List ℕ → Told) (node stripes : List ℕ → ℕ) : Type 0 where
+  pub answer : (s : List ℕ) → Tells (codeIn s) (fileWords s) (fileNumbers []) (λ x. x ≡ countIn s) (tells s)
+  pub noded : (s : List ℕ) → Bears (tells s .number) (nodeIn s) (node s)
+  pub striped : (s : List ℕ) → Bears (tells s .number) (stripesIn s) (stripes s)
 
 pub record Demand1-take-slip (tells : List ℕ → List ℕ → Told) (leaves : List ℕ → List ℕ → List ℕ) : Type 0 where
   pub answer : (s p : List ℕ) → Tells (codeIn s) (fileWords s ++ slipWords s p) (fileNumbers (1 ∷ 9 ∷ 10 ∷ [])) (λ x. x ≡ countIn s + 1) (tells s p)

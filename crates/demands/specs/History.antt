@@ -10,7 +10,7 @@
 --   joined g i n            the runs g i, g (i + 1), .., n of them, end to end
 --   helpOf c s f i          the H record of the station with the share file s, for the failed station f and the stripe i
 --   batchesOf S w f hs      the H records of each stripe's helpers, stripe by stripe: hs i lists those of the stripe i
---   Call, tells, leaves     a call that may be refused with a share file in its hands
+--   Call, tells, leaves     a call that may be refused with a share file in its hands: any operation that writes in a lent run
 --   Event, after            what happens, and the world after it;   Allowed    when it may happen
 --   HeldAt, Helped          a share held at a count; what a rebuild takes: for each stripe d different other stations, all at one count for all stripes
 --   Reached                 a world that some sequence of events leads to
@@ -31,6 +31,9 @@ use Rattle.codes.specs.Share.{symbolFor}
 use Rattle.codes.specs.declared.Code.{Code}
 use Rattle.codes.specs.declared.Refusal.the-variants.{Order}
 use Rattle.stripes.specs.Lists.{within}
+use Rattle.stripes.specs.Encode.{encoded, encodeLeaves}
+use Rattle.rebuilds.specs.Rebuild.{rebuildTold, rebuildLeaves}
+use Rattle.collects.specs.Collect.{collectTold, collectLeaves}
 use Rattle.shares.specs.Fields.{helpRecord, nodeIn, countIn, stripeAt, shareIn}
 use Rattle.shares.specs.Slip.{slipNumber, slipTold, slipLeaves}
 use Rattle.shares.specs.Afresh.{afresh, Slip, slipRecord, amendedBy}
@@ -38,6 +41,7 @@ use Rattle.books.specs.Cut.{cutTold, cutLeaves}
 use Rattle.books.specs.Answer.{answerTold, answerLeaves}
 use Rattle.batches.specs.Batch.{batchTold, batchLeaves}
 use Rattle.batches.specs.Whole.{wholeTold, wholeLeaves}
+use Rattle.corkpaddle.specs.Help.{helpTold, helpLeaves}
 
 -- ---- the operations
 
@@ -123,9 +127,14 @@ batchesOf S w f hs = joined (λ i. joined (λ r. helpOf (S .code) (fileOf (w (ge
 
 -- ---- what happens
 
--- a slip with any record at all; a book cut, an answer written, a batch or a file rebuilt with the share file as the output
+-- a slip with any record at all; with the share file as the output: a message encoded, a helper's symbol written, a share rebuilt,
+-- a message collected, a book cut, an answer written, a batch or a file rebuilt
 pub data Call : Type 0 where
   slip : List ℕ → Call
+  encode : Code → ℕ → List ℕ → Call
+  help : Code → ℕ → ℕ → List ℕ → Call
+  restore : Code → ℕ → List ℕ → List ℕ → List ℕ → Call
+  collect : Code → List ℕ → List ℕ → List ℕ → Call
   cut : Code → ℕ → ℕ → List ℕ → Call
   answer : List ℕ → ℕ → Call
   batch : Code → ℕ → List ℕ → Call
@@ -133,6 +142,10 @@ pub data Call : Type 0 where
 
 abbrev pub tells : Operations → Call → List ℕ → Told
 tells O (slip p) s = O .slipTells s p
+tells O (encode c v m) s = encoded c v m s
+tells O (help c h f u) s = helpTold c h f u s
+tells O (restore c f hs ys ns) s = rebuildTold c f hs ys ns s
+tells O (collect c vs ns r) s = collectTold c vs ns r s
 tells O (cut c v t book) s = cutTold c v t book s
 tells O (answer u f) s = answerTold u f s
 tells O (batch c f b) s = batchTold c f b s
@@ -140,6 +153,10 @@ tells O (whole c f t bs) s = O .wholeTells c f t bs s
 
 abbrev pub leaves : Operations → Call → List ℕ → List ℕ
 leaves O (slip p) s = O .slipGives s p
+leaves O (encode c v m) s = encodeLeaves c v m s
+leaves O (help c h f u) s = helpLeaves c h f u s
+leaves O (restore c f hs ys ns) s = rebuildLeaves c f hs ys ns s
+leaves O (collect c vs ns r) s = collectLeaves c vs ns r s
 leaves O (cut c v t book) s = cutLeaves c v t book s
 leaves O (answer u f) s = answerLeaves u f s
 leaves O (batch c f b) s = batchLeaves c f b s
