@@ -50,9 +50,9 @@ impl Symbol {
 }
 
 // n powers in order over what stands from a place on.
-fn lay(mut all: [u8; 768], from: usize, n: usize) -> [u8; 768]
-    requires { ⌜ Filled all from × Starts from n ⌝ }
-    ensures { λ r. ⌜ Filled r (from + n) ⌝ }
+fn lay(all: &mut [u8; 768], from: usize, n: usize)
+    requires { ⌜ Filled (now all) from × Starts from n ⌝ }
+    ensures { λ _. ⌜ Filled (now (all .exit)) (from + n) ⌝ }
 {
     let powers = POWERS;
     let mut j = 0;
@@ -60,7 +60,6 @@ fn lay(mut all: [u8; 768], from: usize, n: usize) -> [u8; 768]
         all[from + j] = powers[j];
         j += 1;
     }
-    all
 }
 
 // 256 logarithms, and 512 powers after them: twice all, and two more.
@@ -74,7 +73,8 @@ pub fn tables() -> [u8; 768]
         all[i] = logs[i];
         i += 1;
     }
-    let once = lay(all, 256, 255);
-    let twice = lay(once, 511, 255);
-    lay(twice, 766, 2)
+    lay(&mut all, 256, 255);
+    lay(&mut all, 511, 255);
+    lay(&mut all, 766, 2);
+    all
 }

@@ -10,13 +10,13 @@ use Rattle.field.proofs.lent.lay.Statement.{statement}
 use Rattle.field.proofs.lent.lay.Tie as tie
 
 abbrev Inv-loop : tie.InvT-loop
-Inv-loop from n all₀ powers j₀ all j = Filled all (from + j) × Starts from n × (j ≤ n)
+Inv-loop all₀ from n powers j₀ all j = Filled all (from + j) × Starts from n × (j ≤ n)
 
 abbrev μ-loop : tie.MeasureT-loop
-μ-loop from n all₀ powers j₀ all j = n - j
+μ-loop all₀ from n powers j₀ all j = n - j
 
 loop-holds : tie.Need-loop-holds Inv-loop μ-loop
-loop-holds c = (subst (Filled (c .args .t1)) (omega arith) (c .pre .0), c .pre .1, omega arith)
+loop-holds c = (subst (Filled (c .args .all .now)) (omega arith) (c .pre .0), c .pre .1, omega arith)
 
 array-read-all : tie.Need-array-read-all Inv-loop μ-loop
 array-read-all c = let s = c .before .loop .inv .1 in omega (arith, s .few)
@@ -24,8 +24,8 @@ array-read-all c = let s = c .before .loop .inv .1 in omega (arith, s .few)
 add-all : tie.Need-add-all Inv-loop μ-loop
 add-all c = let s = c .before .loop .inv .1 in omega (arith, s .room)
 
-array-write-all : tie.Need-array-write-all Inv-loop μ-loop
-array-write-all c = let s = c .before .loop .inv .1 in omega (arith, s .room)
+element-write-all : tie.Need-element-write-all Inv-loop μ-loop
+element-write-all c = let s = c .before .loop .inv .1 in omega (arith, s .room)
 
 add-j : tie.Need-add-j Inv-loop μ-loop
 add-j c = let s = c .before .loop .inv .1 in omega (arith, s .few)
@@ -52,7 +52,7 @@ lay-spec =
     loop-holds
     array-read-all
     add-all
-    array-write-all
+    element-write-all
     add-j
     loop-less
     loop-again

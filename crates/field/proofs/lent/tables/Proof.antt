@@ -37,16 +37,16 @@ loop-again c =
     (filled-more (l .all) (l .i) _ (l .inv .0) (omega arith) (sym (tables-low (l .i) (omega arith))), omega arith)
 
 lay-requires : tie.Need-lay-requires Inv-loop μ-loop
-lay-requires c κs = (subst (Filled (c .before .loop .all)) (omega arith) (c .before .loop .inv .0), starts-first)
+lay-requires c κs = let l = c .before .before .loop in (subst (Filled (l .all)) (omega arith) (l .inv .0), starts-first)
 
 lay-requires-2 : tie.Need-lay-requires-2 Inv-loop μ-loop
-lay-requires-2 c κs = (c .lay .ensures, starts-second)
+lay-requires-2 c κs = (c .before .lay .ensures, starts-second)
 
 lay-requires-3 : tie.Need-lay-requires-3 Inv-loop μ-loop
-lay-requires-3 c κs = (c .lay2 .ensures, starts-last)
+lay-requires-3 c κs = (c .before .lay2 .ensures, starts-last)
 
 returns : tie.Need-returns Inv-loop μ-loop
-returns c = filled-all (c .lay3 .result) (c .lay3 .ensures)
+returns c = filled-all (c .lay3 .last .0) (c .lay3 .ensures)
 
 pub tables-spec : {M : Type 1} → statement M
 tables-spec =
