@@ -5,11 +5,13 @@
 --   kept, renewed     what the demand says of a share held, and of a rebuild, from the invariant
 --   invariant         each event keeps it
 --   demand3           the demand
+--   repeated          a slip delivered again changes nothing
+--   caught-up         a share at a lower count, as a rebuilt one may be, is brought up to date by the later slips
 -- Assumes nothing.
 use mathlib.Core.Path.{_≡_, _∙_, refl, sym, ap, ap₂, subst}
 use mathlib.Core.Logic.{_≢_, _⊎_, inl, inr, ⊎-elim, by-cases}
 use mathlib.Core.List.{List}
-use Prim.Native.Nat.{ℕ, _+_, _*_, _<_, _≤_}
+use Prim.Native.Nat.{ℕ, zero, suc, _+_, _*_, _<_, _≤_}
 use native.Mathlib.Numerals.{add-one}
 use native.Mathlib.Decide.{ℕ-discrete}
 use native.Mathlib.Omega.{arith}
@@ -38,7 +40,7 @@ use Rattle.books.specs.Answer.{answerTold, answerLeaves}
 use Rattle.batches.specs.Batch.{batchTold, batchLeaves}
 use Rattle.batches.specs.Whole.{wholeTold, wholeLeaves}
 use Rattle.corkpaddle.specs.Help.{helpTold, helpLeaves}
-use Rattle.demands.specs.History.{ours, Setting, Fair, slipAt, recordAt, bookAt, freshAt, Slot, lost, holds, World, putIn, firstWorld, fileOf, onFile, joined, helpOf, batchesOf, Call, slip, encode, help, restore, collect, cut, answer, batch, whole, tells, leaves, Event, deliver, refuse, lose, rebuild, after, Helped, Allowed, Reached, first, then, Touched, Kept, Renewed, Demand3}
+use Rattle.demands.specs.History.{ours, Setting, Fair, slipAt, recordAt, bookAt, freshAt, sentAgain, Slot, lost, holds, World, putIn, firstWorld, fileOf, onFile, joined, helpOf, batchesOf, Call, slip, encode, help, restore, collect, cut, answer, batch, whole, tells, leaves, Event, deliver, refuse, lose, rebuild, after, Helped, Allowed, Reached, first, then, Touched, Kept, Renewed, Demand3}
 use Rattle.demands.proofs.Books.{amended-more, amended-all}
 use Rattle.demands.proofs.Joined.{joined-same}
 use Rattle.demands.proofs.Taken.{take-next, take-other, take-only}
@@ -235,3 +237,22 @@ demand3 = record {
   held = λ S F w r v s e. kept S F (invariant S F r v s e);
   rebuilt = λ S F w r f hs o m H. renewed S F w (invariant S F r) f hs o m H;
 }
+
+-- ---- slips sent again
+
+module _ (S : Setting) (F : Fair S) (v : ℕ) (from : 1 ≤ v) (to : v ≤ S .code .n) where
+  abbrev at-count : (k : ℕ) → k ≤ length (S .slips) → Good S F v (freshAt S v k)
+  at-count k l = record { from = from; to = to; count = k; listed = l; same = refl }
+
+  pub repeated : (k i : ℕ) → k ≤ length (S .slips) → i < k
+      → (slipTold (freshAt S v k) (recordAt S i) ≡ refused Order) × (slipLeaves (freshAt S v k) (recordAt S i) ≡ freshAt S v k)
+  repeated k i l h = let z : i ≢ k = λ e. omega arith in other-told S F (at-count k l) i (omega arith) z
+
+  pub caught-up : (k n : ℕ) → k + n ≤ length (S .slips) → sentAgain S (freshAt S v k) k n ≡ freshAt S v (k + n)
+  unfolding sentAgain
+  caught-up k zero l = let e : k ≡ k + 0 = omega arith in ap (freshAt S v) e
+  caught-up k (suc n) l =
+      let e : k + n + 1 ≡ k + suc n = omega arith in
+      let h : k + n < length (S .slips) = omega arith in
+      ap (λ (s : List ℕ). slipLeaves s (recordAt S (k + n))) (caught-up k n (omega arith)) ∙ next-told S F (at-count (k + n) (omega arith)) h .1
+      ∙ ap (freshAt S v) e

@@ -1,4 +1,4 @@
--- Demand 1, proved. Says and Inputs: tests and the words for them. Words: from tests to words. Judge, Answer, Stripes, Files, Batches: the operations.
+-- Demand 1, proved. Says and Inputs: tests and the words for them. Words: from tests to words. Judge, Answer, Stripes, Reading, Files, Batches: the operations.
 -- Crossing: the outside boundary.
 -- Fixed, FixedFiles: what meets it is one answer. Demand 2, proved: Honest, Stored, HonestBatch. WrongStripes: what does not meet it.
 -- Demand 3, proved. Books, Taken, Touched: slips. Joined, Helpers, Renewed: rebuilding. Sent: what our operations give.
@@ -11,6 +11,7 @@ pub mod Words
 pub mod Judge
 pub mod Answer
 pub mod Stripes
+pub mod Reading
 pub mod Files
 pub mod Batches
 pub mod Crossing

@@ -1,5 +1,6 @@
 -- The world's beginnings and its helpers' records are what our operations give.
 --   cut-fresh         a book cut gives the fresh share file
+--   help-fresh        what a helper tells is the definition's symbol of its share
 --   answer-fresh      a station's answer for a failed node is its H records, stripe by stripe
 -- Assumes nothing.
 use mathlib.Core.Path.{_≡_, _∙_, refl, sym, ap, ap₂}
@@ -26,6 +27,8 @@ use Rattle.shares.specs.Afresh.{afresh}
 use Rattle.shares.proofs.Answers.{left-done}
 use Rattle.shares.proofs.Fresh.{afresh-code, afresh-node, afresh-total}
 use Rattle.shares.proofs.Accepted.{clear-append, afresh-clear}
+use Rattle.demands.specs.Stored.{Helps, ours as stripes-ours}
+use Rattle.demands.proofs.Stored.{demand2}
 use Rattle.books.specs.Cut.{cutReasons, cutTold, cutLeaves}
 use Rattle.books.specs.Answer.{answersFrom, answerReasons, answerTold, answerLeaves}
 use Rattle.demands.specs.History.{joined, helpOf}
@@ -77,3 +80,6 @@ module _ {c : Code} (R : Rules c) (v t : ℕ) (few : 1 ≤ t) (many : t ≤ 1024
           ∙ ap₂ (λ (x : Code) (n : ℕ). answersFrom x File f 0 n) (afresh-code c v t m book long) (afresh-total c v t m book long (omega arith))
           ∙ answers-are c File f 0 t,
     )
+
+pub help-fresh : Helps stripes-ours
+help-fresh = demand2 .helps

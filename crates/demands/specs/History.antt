@@ -5,6 +5,7 @@
 --   slipAt, recordAt S i    the slip i + 1 of the list, and its P record
 --   bookAt S m              the book with the first m slips applied once each
 --   freshAt S v m           the share of the station v at count m, encoded afresh from that book
+--   sentAgain S s m n       the file s after the slips m + 1 to m + n of the list are delivered to it in turn
 --   Slot, World             a station's share file, or none; and that of each station
 --   firstWorld S            fresh shares of the book at the stations 1 to n
 --   joined g i n            the runs g i, g (i + 1), .., n of them, end to end
@@ -87,6 +88,10 @@ bookAt S m = amendedBy (S .code) (S .book) (take m (S .slips))
 
 abbrev pub freshAt : Setting → ℕ → ℕ → List ℕ
 freshAt S v m = afresh (S .code) v (S .total) m (bookAt S m)
+
+unfoldable pub sentAgain : Setting → List ℕ → ℕ → ℕ → List ℕ
+sentAgain S s m zero = s
+sentAgain S s m (suc n) = slipLeaves (sentAgain S s m n) (recordAt S (m + n))
 
 -- ---- worlds
 
