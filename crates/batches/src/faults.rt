@@ -15,7 +15,7 @@ use stripes::lists::{has, is_within, repeats};
 // Whether each record is one of a helper's.
 fn are_helps(batch: &[u8], d: usize) -> bool
     requires { Fits d batch.now }
-    ensures* { λ r. ⌜ r ≡ below d (λ r. eqb (help_kind batch.now r) 0x48) ⌝ }
+    ensures { result ≡ below d (λ r. eqb (help_kind batch.now r) 0x48) }
 {
     let mut r: usize = 0;
     while r < d {

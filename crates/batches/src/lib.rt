@@ -1,6 +1,8 @@
 // A stripe and a whole share file rebuilt from batches of H records.
 //
 // Nothing is written before every batch has been judged.
+#![tactic(auto)]
+
 mod batch; // batch.rt: one batch
 mod columns; // columns.rt: the same byte of each record of a batch, as a list
 mod faults; // faults.rt: what is wrong with one batch

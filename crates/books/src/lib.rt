@@ -1,4 +1,6 @@
 // Books and helpers: a book cut into share files, and what a share file answers for a failed node.
+#![tactic(auto)]
+
 mod answering;
 mod cutting;
 

@@ -7,7 +7,7 @@ use crate::Code;
 use crate::limits::less;
 
 // A place of the message matrix. The row is counted in its lane: lane 0 has the first alpha rows, lane 1 those below.
-#[derive(Drop)]
+#[derive(Clone, Copy)]
 pub struct Cell {
     pub lane: usize,
     pub row: usize,

@@ -1,4 +1,6 @@
 // Codes: what a code is, which codes are accepted, and what each refusal is.
+#![tactic(auto)]
+
 ghost use Rattle.std.specs.Prelude.{◌≡◌, ◌-◌, get_or};
 ghost use Rattle.codes.specs.Told.{number_of, first_of, second_of};
 ghost use Rattle.codes.specs.Sizes.{alpha, bytes, none};
@@ -18,11 +20,11 @@ pub use limits::{is_known, is_sized};
 use points::{judge_points, marks_of, point_in};
 
 // A station's number, from 1. It cannot be multiplied, and a symbol cannot stand for it.
-#[derive(Drop)]
+#[derive(Clone, Copy)]
 pub struct Node(pub u8);
 
 // A code: its kind, the numbers n, k and d, and 32 places for points, of which the first n count.
-#[derive(Drop)]
+#[derive(Clone, Copy)]
 pub struct Code {
     pub kind: u8,
     pub n: u8,
@@ -32,7 +34,7 @@ pub struct Code {
 }
 
 // Document 01's refusals, by its names. Points names the first offending pair of places.
-#[derive(Drop)]
+#[derive(Clone, Copy)]
 pub enum Refusal {
     Record,
     Kind,
@@ -47,7 +49,7 @@ pub enum Refusal {
 }
 
 // What the judge says of a code.
-#[derive(Drop)]
+#[derive(Clone, Copy)]
 pub enum Judged {
     Good,
     Refused(Refusal),

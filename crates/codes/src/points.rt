@@ -9,7 +9,7 @@ use crate::{Code, Judged, Refusal};
 use field::Symbol;
 
 // Two places, from 0.
-#[derive(Drop)]
+#[derive(Clone, Copy)]
 struct Pair(usize, usize);
 
 // The point of a node, whatever its number: node 0 reads the first place, and past the last place a point is 0.

@@ -1,4 +1,6 @@
 // One stripe collected: the message that the shares of k nodes give.
+#![tactic(auto)]
+
 ghost use Rattle.std.specs.Prelude.{◌≡◌};
 ghost use Rattle.rebuilds.specs.Rebuild.{say_counted};
 ghost use Rattle.collects.specs.Collect.{collect_told, collect_leaves};

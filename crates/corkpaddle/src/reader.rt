@@ -6,7 +6,7 @@ use records::reading::{Read, read_at};
 
 // What was read, as it crosses: 0 and the places of a body; or refusal 1, no body, and the place that was asked.
 #[repr(C)]
-#[derive(Drop)]
+#[derive(Clone, Copy)]
 pub struct Record {
     pub number: u64,
     pub start: u64,

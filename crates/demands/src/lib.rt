@@ -1,1 +1,2 @@
 // No code: document 01's demands, as theorems over the definitions that the promises cite.
+#![tactic(auto)]

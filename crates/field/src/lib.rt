@@ -1,4 +1,6 @@
 // The field of 256 elements: a symbol, its sum, product, quotient and powers. Products go by logarithms, which two tables give.
+#![tactic(auto)]
+
 ghost use Rattle.std.specs.Prelude.{◌≡◌};
 ghost use Rattle.field.specs.Field.{add, pow};
 
@@ -10,7 +12,7 @@ mod product; // product.rt: the product, the quotient and powers
 pub use lent::tables;
 
 // A byte that is a number of the field, and no other number.
-#[derive(Drop)]
+#[derive(Clone, Copy)]
 pub struct Symbol(pub u8);
 
 impl Symbol {

@@ -1,5 +1,7 @@
 // Document 01's code A: node 1 rebuilt from a list of triples, the helpers 2, 3 and 4 with the symbols 11, 14 and 7, in each order;
 // then lists that are refused. For each, a line with the slip count and the share, or the refusal's number.
+#![tactic(auto)]
+
 use codes::{Code, Node};
 use field::Symbol;
 use lending::from_three;

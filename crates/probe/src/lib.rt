@@ -1,4 +1,6 @@
 // The field's operations for the comparison with the independent program. They are no part of the library's boundary.
+#![tactic(auto)]
+
 ghost use Rattle.std.specs.Prelude.{◌≡◌};
 ghost use Rattle.field.specs.Field.{mul, quotient, pow};
 

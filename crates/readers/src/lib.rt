@@ -2,6 +2,8 @@
 //
 // The work on slices and numbers is done elsewhere: reading in the crate of records, and where to go on in the file beside
 // this one. The functions here only take a reader apart and put one together, since each of them is proved by hand.
+#![tactic(auto)]
+
 mod onward; // onward.rt: where reading goes on after an answer
 
 ghost use Rattle.std.specs.Prelude.{◌≡◌};
@@ -11,14 +13,14 @@ ghost use Rattle.readers.specs.Readers.{at_start, step_from, nth, told_nth};
 use crate::onward::{left_after, place_after};
 use records::reading::{Read, read_at};
 
-#[derive(Drop)]
+#[derive(Clone, Copy)]
 pub struct Reader<'a> {
     pub file: &'a [u8],
     pub place: usize,
 }
 
 // What reading one record gives: the answer, and the reader where it stands then.
-#[derive(Drop)]
+#[derive(Clone, Copy)]
 pub struct Step<'a> {
     pub answer: Read,
     pub reader: Reader<'a>,

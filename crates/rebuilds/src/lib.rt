@@ -1,4 +1,6 @@
 // One stripe rebuilt: the plan of a rebuild, which depends only on the points, and its use on any number of stripes.
+#![tactic(auto)]
+
 ghost use Rattle.std.specs.Prelude.{◌≡◌};
 ghost use Rattle.rebuilds.specs.Plan.{plan_of, applied};
 ghost use Rattle.rebuilds.specs.Rebuild.{rebuild_told, rebuild_leaves, say_counted};
@@ -10,7 +12,7 @@ pub mod points; // points.rt: the points of a list of nodes
 mod weigh; // weigh.rt: the weights of a plan
 
 // What a rebuild or a collection answers: the count of the helpers or of the shares.
-#[derive(Drop)]
+#[derive(Clone, Copy)]
 pub enum Counted {
     Done(u32),
     Refused(Refusal),

@@ -2,6 +2,8 @@
 //
 // This crate knows no codes. A record is one byte of kind and a body whose length the kind fixes; what a body means is
 // its reader's matter.
+#![tactic(auto)]
+
 pub mod kinds; // kinds.rt: the six kinds, and the length of each one's body
 pub mod numbers; // numbers.rt: the numbers in a body, big-endian
 pub mod reading; // reading.rt: one record at a place of a file, and its body

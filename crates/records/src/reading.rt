@@ -7,7 +7,7 @@ ghost use Rattle.records.specs.Reading.{read_at, read_as, told, told_at, told_as
 use crate::kinds::body_of;
 
 // A record's body, as a part of the file, and the next place; or the place where no record could be read.
-#[derive(Drop)]
+#[derive(Clone, Copy)]
 pub enum Read {
     Body {
         start: usize,

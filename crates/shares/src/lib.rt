@@ -1,6 +1,8 @@
 // Share files: judged, and their slips taken.
 //
 // This crate knows no program and no boundary. A file comes in as a lent run of bytes, and every function answers every run.
+#![tactic(auto)]
+
 use codes::{Node, Refusal};
 
 mod judging; // judging.rt: a share file judged, record by record
@@ -16,7 +18,7 @@ pub use totals::{is_total, judge_total};
 pub use writing::{code_record, help_record, node_record, stripe_record};
 
 // What the judge says of a share file. Its code is read by code_in.
-#[derive(Drop)]
+#[derive(Clone, Copy)]
 pub enum Filed {
     Good {
         node: Node,

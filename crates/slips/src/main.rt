@@ -2,6 +2,8 @@
 //
 // What it decides is decided by the crate `streams`, whose theorems say what these pieces give together. Here is only reading and
 // writing, which no contract can speak of: each function is proved safe, and that it ends. Where writing fails the program ends.
+#![tactic(auto)]
+
 ghost use Rattle.std.specs.Prelude.{◌≡◌, ◌≤◌, length};
 ghost use Rattle.io.specs.Counts.{IsPrefixLen};
 
@@ -9,7 +11,7 @@ use libc::{STDIN_FILENO, STDOUT_FILENO};
 use records::kinds::ANSWER;
 
 // What comes after a chunk of slips.
-#[derive(Drop)]
+#[derive(Clone, Copy)]
 enum Next {
     More,
     Last,

@@ -1,6 +1,8 @@
 // The basis solutions of a square system of rows of powers: for each point the coefficients of the polynomial that is 1 there and 0
 // at the others. They are made once for a list of points; the solution for any values is then a sum of them.
 // Interpolation is Newton's, in place: a pass forward over the values and a pass backward to the coefficients.
+#![tactic(auto)]
+
 ghost use Rattle.std.specs.Prelude.{◌≡◌, ◌+◌, ◌<◌, ◌≤◌};
 ghost use Rattle.field.specs.Tables.{tables};
 ghost use Rattle.algebra.specs.Symbol.{symbol};

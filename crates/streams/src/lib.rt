@@ -1,6 +1,8 @@
 // The program's core: a share file at the start of a stream, and the run of slip records that follows it.
 //
 // Every function works on lent runs of bytes and answers every run. Reading and writing are the program's matter.
+#![tactic(auto)]
+
 mod heads; // heads.rt: how long a share file is, and whether it is refused
 mod runs; // runs.rt: a run of slip records, taken one after the other
 mod taking; // taking.rt: one slip, with what a run has in common made once

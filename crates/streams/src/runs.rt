@@ -9,7 +9,7 @@ use records::writing::put;
 use shares::code_in;
 
 // How many bytes of answers were written, and whether the reading has ended.
-#[derive(Drop)]
+#[derive(Clone, Copy)]
 pub struct Walked {
     pub written: usize,
     pub ended: bool,

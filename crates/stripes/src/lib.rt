@@ -1,4 +1,6 @@
 // One stripe: encoded, and helped with.
+#![tactic(auto)]
+
 ghost use Rattle.std.specs.Prelude.{◌≡◌};
 ghost use Rattle.stripes.specs.Encode.{encoded, encode_leaves, say_encoded};
 ghost use Rattle.stripes.specs.Help.{helped, say_helped};
@@ -19,14 +21,14 @@ use rows::row_of;
 pub use rows::{help_by, row};
 
 // What encoding a stripe answers.
-#[derive(Drop)]
+#[derive(Clone, Copy)]
 pub enum Encoded {
     Done,
     Refused(Refusal),
 }
 
 // What a helper answers: its symbol.
-#[derive(Drop)]
+#[derive(Clone, Copy)]
 pub enum Helped {
     Done(Symbol),
     Refused(Refusal),

@@ -5,7 +5,7 @@ ghost use Rattle.triples.specs.Columns.{no_columns, put_at, gathered};
 use crate::Helper;
 
 // The helpers' nodes, symbols and counts, in the list's order, and zeros after them.
-#[derive(Drop)]
+#[derive(Clone, Copy)]
 pub struct Columns {
     pub nodes: [u8; 31],
     pub symbols: [u8; 31],

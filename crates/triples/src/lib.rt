@@ -1,4 +1,6 @@
 // Rebuilding from helpers as a list of triples that the caller lends: a thin function above the rebuild on plain runs.
+#![tactic(auto)]
+
 ghost use Rattle.std.specs.Prelude.{◌≡◌};
 ghost use Rattle.rebuilds.specs.Rebuild.{rebuild_told, rebuild_leaves, say_counted};
 ghost use Rattle.triples.specs.Triples.{nodes_of, symbols_of, counts_of};
@@ -13,7 +15,7 @@ mod finishing; // finishing.rt: the rebuild on the columns
 mod gathering; // gathering.rt: the list, taken apart into its columns
 
 // One helper: its node, its symbol for the failed node, and its slip count.
-#[derive(Drop)]
+#[derive(Clone, Copy)]
 pub struct Helper {
     pub node: Node,
     pub symbol: Symbol,

@@ -2,6 +2,8 @@
 // then the refusal at the end. After it the same file cut by one byte, and with another kind byte.
 //
 // A function that has a reader in a local is proved by hand, so this program asks for each record by its number.
+#![tactic(auto)]
+
 use libc::STDOUT_FILENO;
 use records::reading::{Read, body};
 use records::writing::put;
