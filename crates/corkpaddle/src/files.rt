@@ -12,16 +12,14 @@ use codes::Node;
 use shares::{judge_file, take_slip};
 
 // Whether the share file is accepted; its count.
-#[unsafe(no_mangle)]
-pub extern "C" fn corkpaddle_judge_file(file: &[u8]) -> Answer
+pub fn corkpaddle_judge_file(file: &[u8]) -> Answer
     ensures { Says result (file_told file.now) }
 {
     of_filed(judge_file(file))
 }
 
 // A slip taken into the share file; the new count.
-#[unsafe(no_mangle)]
-pub extern "C" fn corkpaddle_take_slip(file: &mut [u8], slip: &[u8]) -> Answer
+pub fn corkpaddle_take_slip(file: &mut [u8], slip: &[u8]) -> Answer
     ensures answer { Says result (slip_told file.old slip.now) }
     ensures written { file.new ≡ slip_leaves file.old slip.now }
 {
@@ -29,8 +27,7 @@ pub extern "C" fn corkpaddle_take_slip(file: &mut [u8], slip: &[u8]) -> Answer
 }
 
 // What the share file's station sends for a failed node: an H record for each stripe.
-#[unsafe(no_mangle)]
-pub extern "C" fn corkpaddle_answer_for(file: &[u8], failed: u8, output: &mut [u8]) -> Answer
+pub fn corkpaddle_answer_for(file: &[u8], failed: u8, output: &mut [u8]) -> Answer
     ensures answer { Says result (answer_told file.now failed output.old) }
     ensures written { output.new ≡ answer_leaves file.now failed output.old }
 {

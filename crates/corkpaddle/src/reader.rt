@@ -15,8 +15,7 @@ pub struct Record {
 }
 
 // The record at a place, of whichever kind.
-#[unsafe(no_mangle)]
-pub extern "C" fn corkpaddle_read(file: &[u8], place: u64) -> Record
+pub fn corkpaddle_read(file: &[u8], place: u64) -> Record
     ensures { Shows result (read_at file.now place) }
 {
     let found = read_at(file, place as usize);

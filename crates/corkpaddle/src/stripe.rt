@@ -24,8 +24,7 @@ pub(crate) fn is_code(run: &[u8]) -> bool
 }
 
 // Whether the code is accepted.
-#[unsafe(no_mangle)]
-pub extern "C" fn corkpaddle_judge(code: &[u8]) -> Answer
+pub fn corkpaddle_judge(code: &[u8]) -> Answer
     ensures { Says result (coded code.now (judged (code_at code.now 0))) }
 {
     if !is_code(code) {
@@ -35,13 +34,7 @@ pub extern "C" fn corkpaddle_judge(code: &[u8]) -> Answer
 }
 
 // The share of a node of one message stripe.
-#[unsafe(no_mangle)]
-pub extern "C" fn corkpaddle_encode(
-    code: &[u8],
-    node: u8,
-    message: &[u8],
-    output: &mut [u8],
-) -> Answer
+pub fn corkpaddle_encode(code: &[u8], node: u8, message: &[u8], output: &mut [u8]) -> Answer
     ensures answer { Says result (coded code.now (encoded (code_at code.now 0) node message.now output.old)) }
     ensures written { output.new ≡ kept code.now output.old (encode_leaves (code_at code.now 0) node message.now output.old) }
 {
@@ -52,8 +45,7 @@ pub extern "C" fn corkpaddle_encode(
 }
 
 // What a helper with this share sends for a failed node, into an output of one byte.
-#[unsafe(no_mangle)]
-pub extern "C" fn corkpaddle_help(
+pub fn corkpaddle_help(
     code: &[u8],
     helper: u8,
     failed: u8,
@@ -70,8 +62,7 @@ pub extern "C" fn corkpaddle_help(
 }
 
 // The share of a failed node from its helpers' nodes, symbols and slip counts, which stand in one order; the helpers' count.
-#[unsafe(no_mangle)]
-pub extern "C" fn corkpaddle_rebuild(
+pub fn corkpaddle_rebuild(
     code: &[u8],
     failed: u8,
     nodes: &[u8],
@@ -96,8 +87,7 @@ pub extern "C" fn corkpaddle_rebuild(
 }
 
 // The message stripe from k shares in one run, with their nodes and slip counts in the same order; the shares' count.
-#[unsafe(no_mangle)]
-pub extern "C" fn corkpaddle_collect(
+pub fn corkpaddle_collect(
     code: &[u8],
     nodes: &[u8],
     counts: &[u32],

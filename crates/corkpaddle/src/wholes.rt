@@ -27,13 +27,7 @@ fn refused_beside(stripes: u32) -> Answer
 }
 
 // The D record of the asked node from a batch of its helpers' H records, into an output of 34 bytes; the helpers' count.
-#[unsafe(no_mangle)]
-pub extern "C" fn corkpaddle_rebuild_batch(
-    code: &[u8],
-    asked: u8,
-    batch: &[u8],
-    output: &mut [u8],
-) -> Answer
+pub fn corkpaddle_rebuild_batch(code: &[u8], asked: u8, batch: &[u8], output: &mut [u8]) -> Answer
     ensures answer { Says result (coded code.now (batch_told (code_at code.now 0) asked batch.now output.old)) }
     ensures written { output.new ≡ kept code.now output.old (batch_leaves (code_at code.now 0) asked batch.now output.old) }
 {
@@ -44,8 +38,7 @@ pub extern "C" fn corkpaddle_rebuild_batch(
 }
 
 // The share file of the asked node from a batch for each stripe, in order; the helpers' count.
-#[unsafe(no_mangle)]
-pub extern "C" fn corkpaddle_rebuild_file(
+pub fn corkpaddle_rebuild_file(
     code: &[u8],
     asked: u8,
     stripes: u32,
@@ -62,14 +55,7 @@ pub extern "C" fn corkpaddle_rebuild_file(
 }
 
 // The fresh share file of a node of a book.
-#[unsafe(no_mangle)]
-pub extern "C" fn corkpaddle_cut(
-    code: &[u8],
-    node: u8,
-    stripes: u32,
-    book: &[u8],
-    output: &mut [u8],
-) -> Answer
+pub fn corkpaddle_cut(code: &[u8], node: u8, stripes: u32, book: &[u8], output: &mut [u8]) -> Answer
     ensures answer { Says result (coded_for code.now stripes (cut_told (code_at code.now 0) node stripes book.now output.old)) }
     ensures written { output.new ≡ kept code.now output.old (cut_leaves (code_at code.now 0) node stripes book.now output.old) }
 {

@@ -6,24 +6,21 @@ ghost use Rattle.field.specs.Field.{mul, quotient, pow};
 
 use field::Symbol;
 
-#[unsafe(no_mangle)]
-pub extern "C" fn corkpaddle_product(a: u8, b: u8) -> u8
+pub fn corkpaddle_product(a: u8, b: u8) -> u8
     ensures { result ≡ mul a b }
 {
     let p = Symbol::of(a).times(Symbol::of(b));
     p.0
 }
 
-#[unsafe(no_mangle)]
-pub extern "C" fn corkpaddle_quotient(a: u8, b: u8) -> u8
+pub fn corkpaddle_quotient(a: u8, b: u8) -> u8
     ensures { result ≡ quotient a b }
 {
     let q = Symbol::of(a).over(Symbol::of(b));
     q.0
 }
 
-#[unsafe(no_mangle)]
-pub extern "C" fn corkpaddle_power(a: u8, n: usize) -> u8
+pub fn corkpaddle_power(a: u8, n: usize) -> u8
     ensures { result ≡ pow a n }
 {
     let p = Symbol::of(a).power(n);
