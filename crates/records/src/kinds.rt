@@ -15,6 +15,7 @@ pub const HELP: u8 = 0x48;
 pub const ANSWER: u8 = 0x45;
 
 // The length of the body after a kind byte: 0 where there is no such kind.
+#[tactic(auto, unfolding(crate::specs::Kinds::body_of))]
 pub fn body_of(kind: u8) -> usize
     ensures { result ≡ body_of kind }
 {

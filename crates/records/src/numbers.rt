@@ -43,6 +43,7 @@ pub fn number4(s: &[u8], at: usize) -> u32
     number(s, at, 4)
 }
 
+#[tactic(auto, unfolding(crate::specs::Numbers::digits))]
 pub fn bytes2(n: u16) -> [u8; 2]
     ensures { result ≡ digits 2 n }
 {
@@ -50,6 +51,7 @@ pub fn bytes2(n: u16) -> [u8; 2]
     [(high % 256) as u8, (n % 256) as u8]
 }
 
+#[tactic(auto, unfolding(crate::specs::Numbers::digits))]
 pub fn bytes4(n: u32) -> [u8; 4]
     ensures { result ≡ digits 4 n }
 {

@@ -20,6 +20,7 @@ pub enum Read {
 }
 
 // The record at a place, of whichever kind.
+#[tactic(auto, using(crate::proofs::Whole::past, crate::proofs::Whole::unknown, crate::proofs::Whole::cut, crate::proofs::Whole::stands))]
 pub fn read_at(file: &[u8], place: usize) -> Read
     ensures answer { result ≡ read_at file.now place }
     ensures told { told result ≡ told_at file.now place }
