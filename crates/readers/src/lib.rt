@@ -1,7 +1,7 @@
 // A reader over a share file. It holds the file and the place it has reached.
 //
 // The work on slices and numbers is done elsewhere: reading in the crate of records, and where to go on in the file beside
-// this one. The functions here only take a reader apart and put one together, since each of them is proved by hand.
+// this one. The functions here only take a reader apart and put one together.
 #![tactic(auto)]
 
 mod onward; // onward.rt: where reading goes on after an answer
