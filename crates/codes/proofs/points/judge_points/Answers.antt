@@ -6,15 +6,13 @@ use mathlib.Core.List.{List, [], ◌∷◌}
 use Prim.Native.Nat.{ℕ, ◌+◌, ◌<◌, ◌≤◌}
 use native.Mathlib.Omega.{arith}
 use lib.Dec.{ltb}
-use borrow.Author.Rules.{rules}
 use borrow.Author.Tests.{lt-ltb, le-ltb}
 use Rattle.field.specs.declared.Symbol.{Symbol}
 use Rattle.codes.specs.Told.{Told, ◌when◌, refused, done, answered}
 use Rattle.codes.specs.Judge.{pair_first, pair_second, unused_at, pointed, pair_of}
 use Rattle.codes.specs.declared.Refusal.TheVariants.{Points}
 use Rattle.codes.proofs.Told.{points-first, answered-skip, answered-none}
-use Rattle.codes.proofs.points.judge_points.Statement.{statement}
-use Rattle.codes.proofs.points.judge_points.Tie as tie
+use Rattle.codes.proofs.points.judge_points.Goals as goal
 
 module _ (m : List ℕ) (ps : List Symbol) (n f : ℕ) (e : f ≡ pair_first m n) where
   abbrev said : Told
@@ -39,49 +37,20 @@ module _ (m : List ℕ) (ps : List Symbol) (n f : ℕ) (e : f ≡ pair_first m n
         sym (answered-skip 4 [] (pair_of m ps n) 0 (simp (le-ltb (pair_first m n) n (omega arith), le-ltb (unused_at ps n) 32 (omega arith)))
         ∙ answered-none (pair_of m ps n) 0)
 
-first-pair-requires : tie.Need-first-pair-requires
-first-pair-requires c κs = search rules
+pub place-requires-then-first-n : goal.place-requires-then-first-n
+place-requires-then-first-n c = omega (arith, c.first_pair-pair.ensures.2 c.if-first-n.true)
 
-place-requires : tie.Need-place-requires
-place-requires c κs = search rules
+pub returns-then-first-n : goal.returns-then-first-n
+returns-then-first-n c =
+    let f = c.first_pair-pair.ensures in
+    named _ _ _ _ f.0 _ _ _ (omega arith) (f.1 (omega arith)) c.place.ensures c.place-then-first-n.ensures
 
-place-requires-2 : tie.Need-place-requires-2
-place-requires-2 c κs = omega (arith, c.before.before.first-pair.ensures.2 c.before.if1.true)
+pub returns-then-unused-lt32 : goal.returns-then-unused-lt32
+returns-then-unused-lt32 c =
+    let f = c.first_pair-pair.ensures in
+    unused _ _ _ _ f.0 (omega arith) _ c.first_unused-unused.ensures.0 _ _ (omega arith) c.place-then-unused-lt32.ensures c.place-then-unused-lt32-2.ensures
 
-returns : tie.Need-returns
+pub returns : goal.returns
 returns c =
-    let f = c.before.before.before.first-pair.ensures in
-    named _ _ _ _ f.0 _ _ _ (omega arith) (f.1 (omega arith)) c.before.place.ensures c.place2.ensures
-
-first-unused-requires : tie.Need-first-unused-requires
-first-unused-requires c κs = search rules
-
-place-requires-3 : tie.Need-place-requires-3
-place-requires-3 c κs = search rules
-
-place-requires-4 : tie.Need-place-requires-4
-place-requires-4 c κs = search rules
-
-returns-2 : tie.Need-returns-2
-returns-2 c =
-    let f = c.before.before.before.before.before.first-pair.ensures in
-    unused _ _ _ _ f.0 (omega arith) _ c.before.before.before.first-unused.ensures.0 _ _ (omega arith) c.before.place3.ensures c.place4.ensures
-
-returns-3 : tie.Need-returns-3
-returns-3 c =
-    let f = c.before.before.before.first-pair.ensures in
-    good _ _ _ _ f.0 (omega arith) _ c.before.first-unused.ensures.0 (omega arith)
-
-pub judge-points-spec : {M : Type 1} → statement M
-judge-points-spec =
-    tie.close
-    (tie.spec
-    first-pair-requires
-    place-requires
-    place-requires-2
-    returns
-    first-unused-requires
-    place-requires-3
-    place-requires-4
-    returns-2
-    returns-3)
+    let f = c.first_pair-pair.ensures in
+    good _ _ _ _ f.0 (omega arith) _ c.first_unused-unused.ensures.0 (omega arith)

@@ -5,16 +5,13 @@ use mathlib.Core.Bool.{true, false, not}
 use mathlib.Core.List.{List, [], ◌∷◌}
 use Prim.Native.Nat.{ℕ}
 use native.Mathlib.Omega.{arith}
-use borrow.Author.Rules.{rules}
-use borrow.Author.Tests.{not-false}
 use Rattle.codes.specs.Told.{Told, ◌when◌, refused, answered}
 use Rattle.codes.specs.Judge.{known, sized, marks, pointed, pair_of, pair_in, judge_reasons, judged}
 use Rattle.codes.specs.declared.Code.{Code}
 use Rattle.codes.specs.declared.Refusal.TheVariants.{Kind, Size}
 use Rattle.codes.proofs.Told.{refused-first, answered-skip}
 use Rattle.codes.proofs.Tests.{sized-only}
-use Rattle.codes.proofs.judge.Statement.{statement}
-use Rattle.codes.proofs.judge.Tie as tie
+use Rattle.codes.proofs.judge.Goals as goal
 
 module _ (code : Code) where
   unknown : not (known code.kind) ≡ true → refused Kind ≡ judged code
@@ -34,46 +31,17 @@ module _ (code : Code) where
         ∙ ap (λ (x : List ℕ). answered ((4 when not (pointed x code.points code.n)) ∷ []) (pair_of x code.points code.n) 0) m
         ∙ sym (answered-skip 2 _ (pair_in code) 0 k ∙ answered-skip 3 _ (pair_in code) 0 e)
 
-is-known-requires : tie.Need-is-known-requires
-is-known-requires c κs = search rules
+pub returns-then-not-is_known : goal.returns-then-not-is_known
+returns-then-not-is_known c = unknown _ (ap not (sym c.is_known.ensures ∙ c.if-not-is_known.true))
 
-returns : tie.Need-returns
-returns c = unknown _ (ap not (sym c.before.is_Known.ensures) ∙ c.if1.true)
+pub returns-then-not-is_sized : goal.returns-then-not-is_sized
+returns-then-not-is_sized c =
+    wrong _ (ap not (sym c.is_known.ensures ∙ c.if-not-is_known.false)) (ap not (sym c.is_sized.ensures ∙ c.if-not-is_sized.true))
 
-is-sized-requires : tie.Need-is-sized-requires
-is-sized-requires c κs = search rules
+pub judge_points-requires : goal.judge_points-requires
+judge_points-requires c = (sized-only _ (sym c.is_sized.ensures ∙ c.if-not-is_sized.false)).most
 
-returns-2 : tie.Need-returns-2
-returns-2 c =
-    let b = c.before.before in
-    wrong _ (ap not (sym b.before.is_Known.ensures) ∙ b.if1.false) (ap not (sym c.before.is-sized.ensures) ∙ c.if2.true)
-
-marks-of-requires : tie.Need-marks-of-requires
-marks-of-requires c κs = search rules
-
-cast-judge-points : tie.Need-overflow-cast-judge-points
-cast-judge-points c = search rules
-
-judge-points-requires : tie.Need-judge-points-requires
-judge-points-requires c κs =
-    let s = c.before.before.before in (sized-only _ (sym s.before.is-sized.ensures ∙ not-false _ s.if2.false)).most
-
-returns-3 : tie.Need-returns-3
-returns-3 c =
-    let s = c.before.before.before.before in
-    let b = s.before.before in
-    points _ (ap not (sym b.before.is_Known.ensures) ∙ b.if1.false) _ _ (ap not (sym s.before.is-sized.ensures) ∙ s.if2.false)
-    c.before.before.marks-of.ensures c.judge-points.ensures
-
-pub judge-spec : {M : Type 1} → statement M
-judge-spec =
-    tie.close
-    (tie.spec
-    is-known-requires
-    returns
-    is-sized-requires
-    returns-2
-    marks-of-requires
-    cast-judge-points
-    judge-points-requires
-    returns-3)
+pub returns : goal.returns
+returns c =
+    points _ (ap not (sym c.is_known.ensures ∙ c.if-not-is_known.false)) _ _ (ap not (sym c.is_sized.ensures ∙ c.if-not-is_sized.false))
+    c.marks_of.ensures c.judge_points.ensures

@@ -1,0 +1,14 @@
+-- `codes::body::points_at` meets its contract. The loop's invariant: each place passed has the byte that stands there.
+-- Assumes nothing.
+use mathlib.Core.Path.{◌≡◌}
+use Prim.Native.Nat.{ℕ, ◌+◌, ◌-◌, ◌<◌, ◌≤◌}
+use lib.ListN.{length, get_or}
+use Rattle.codes.specs.Sizes.{none}
+use Rattle.codes.proofs.body.points_at.Given as goal
+
+abbrev pub invariant-loop-i : goal.invariant-loop-i
+invariant-loop-i l =
+    (l.i ≤ 32) × (length l.points ≡ 32) × ((j : ℕ) → j < l.i → (get_or l.points j none).0 ≡ get_or l.s (l.at + 4 + j) 0)
+
+abbrev pub decreases-loop-i : goal.decreases-loop-i
+decreases-loop-i l = 32 - l.i
