@@ -1,6 +1,6 @@
 -- Interpolation reads no more points than it has values to meet.
-use mathlib.Core.Path.{◌≡◌, ◌∙◌, refl, ap, ap₂}
-use Prim.Native.Nat.{ℕ, zero, suc, ◌<◌}
+use mathlib.Core.Path.{◌≡◌, ◌∙◌, refl, ap₂}
+use Prim.Native.Nat.{ℕ, zero, suc}
 use native.Mathlib.Omega.{arith}
 use Rattle.algebra.specs.Symbol.{F, ◌⊕◌, ◌⊗◌, inv}
 use Rattle.algebra.specs.Sums.{Vec, Same}

@@ -20,8 +20,7 @@ use Rattle.algebra.proofs.Levels.{forward-start, turn, in_place}
 use Rattle.algebra.proofs.Bytes.{table-ext}
 use Rattle.solver.specs.Passes.{Row}
 use Rattle.solver.proofs.Passes.{row_zero, row-then, row-store}
-use Rattle.solver.proofs.solution.Statement.{statement}
-use Rattle.solver.proofs.solution.Tie as tie
+use Rattle.solver.proofs.solution.Goals as goal
 
 start : (s u : ℕ) (xs : Vec) → u < s → s ≤ 31 → Row s (Forward s 0 xs (unit u)) (set (replicate 31 0) u 1)
 unfolding 𝟙
@@ -38,21 +37,9 @@ end s xs ys r w =
     (λ k. sym (val-symbol (w.bytes i)) ∙ ap (λ (a : F). a.val) (in_place xs ys w.state i k))
     (λ n. w.clear i (omega arith) ∙ sym (ap (λ (a : F). a.val) (interp-past s xs ys i (omega arith)))))
 
-array-write-ys : tie.Need-array-write-ys
-array-write-ys c = search rules
-
-forward-requires : tie.Need-forward-requires
-forward-requires c κs = search rules
-
-backward-requires : tie.Need-backward-requires
-backward-requires c κs = search rules
-
-returns : tie.Need-returns
+pub returns : goal.returns
 returns c =
-    let s = c.before.before.before.before.args in
+    let s = c.args in
     end s.s _ (unit s.u) _ (c.backward.ensures (unit s.u) (row-then
-    (c.before.before.forward.ensures (unit s.u) (start s.s s.u _ (search rules) (search rules)))
+    (c.forward.ensures (unit s.u) (start s.s s.u _ (search rules) (search rules)))
     (turn _ (unit s.u))))
-
-pub solution-spec : {M : Type 1} → statement M
-solution-spec = tie.close (tie.spec array-write-ys forward-requires backward-requires returns)
