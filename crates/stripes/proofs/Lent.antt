@@ -7,7 +7,7 @@
 --   share-row                     by the node's row the share
 --   encoded-unknown, -unsized, -many, -other, -is      the cases of encoding;   encoded-row   by the node's row the share is written
 -- Assumes nothing.
-use mathlib.Core.Path.{◌≡◌, ◌∙◌, refl, sym, ap, ap₂}
+use mathlib.Core.Path.{◌≡◌, ◌∙◌, sym, ap, ap₂}
 use mathlib.Core.Bool.{true, false}
 use mathlib.Core.List.{List}
 use Prim.Native.Nat.{ℕ, ◌+◌, ◌-◌, ◌<◌, ◌≤◌}
@@ -18,7 +18,7 @@ use lib.ListN.{length, get_or}
 use Rattle.field.specs.Tables.{tables, by_table}
 use Rattle.field.proofs.Laws.{by-tables}
 use Rattle.algebra.specs.Symbol.{F, symbol, ◌⊗◌, 𝟘, pow}
-use Rattle.algebra.specs.Sums.{Vec, Same, sum, dot}
+use Rattle.algebra.specs.Sums.{Vec, Same, dot}
 use Rattle.algebra.specs.Bytes.{at, table}
 use Rattle.algebra.proofs.Ring.{symbol-val, val-symbol, symbol-mul, mul_comm}
 use Rattle.algebra.proofs.Sums.{sum_same}

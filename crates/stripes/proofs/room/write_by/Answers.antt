@@ -16,9 +16,7 @@ use Rattle.stripes.specs.Arrays.{symbol_at, cell_at, Held, Agrees, Filled, Put}
 use Rattle.stripes.specs.Lent.{weighed, lent_share}
 use Rattle.stripes.proofs.Lent.{weighed-same}
 use Rattle.stripes.proofs.Shapes.{d-most, alpha-most}
-use borrow.Author.Rules.{rules}
-use Rattle.stripes.proofs.room.write_by.Statement.{statement}
-use Rattle.stripes.proofs.room.write_by.Tie as tie
+use Rattle.stripes.proofs.room.write_by.Goals as goal
 
 module _ (c : Code) (r t m : List ℕ) (w s : List Symbol) (g : List (List Symbol)) (before after : List ℕ) where
   whole : length before ≡ alpha c → Held m w → Filled g c.d (length before) (matrix c (symbol_at w))
@@ -34,46 +32,22 @@ module _ (c : Code) (r t m : List ℕ) (w s : List Symbol) (g : List (List Symbo
       entry : (i : ℕ) → i < length before → weighed c.d r t (λ q. cell_at g q i) ≡ weighed c.d r t (λ q. matrix c (at m) q i)
       entry i h = weighed-same c.d r t (λ q b. filled q b i h ∙ ap (λ (f : Vec). matrix c f q i) (fun_ext held.each))
 
-cast-d : tie.Need-overflow-cast-d
-cast-d c = search rules
-
-room-of-requires : tie.Need-room-of-requires
-room-of-requires c κs = search rules
-
-grid-of-requires : tie.Need-grid-of-requires
-grid-of-requires c κs = search rules
-
-times-requires : tie.Need-times-requires
-times-requires c κs =
-    let p = c.before.before.before.before.before.requires in
+pub times-requires : goal.times-requires
+times-requires c =
+    let p = c.requires in
     (d-most _ p.1, omega (arith, p.3, alpha-most _ p.1 p.0))
 
-put-requires : tie.Need-put-requires
-put-requires c κs =
-    let p = c.before.before.before.before.before.before.before.requires in
+pub put-requires : goal.put-requires
+put-requires c =
+    let p = c.requires in
     omega (arith, p.3, alpha-most _ p.1 p.0)
 
-same_length : tie.Need-same-length
-same_length c = search rules
-
-returns : tie.Need-returns
+pub returns : goal.returns
 returns c =
-    let p = c.before.before in
-    let t = p.before.before in
-    let g = t.before in
-    let w = g.before in
-    let s = w.before.before.before.before in
-    whole _ _ _ _ w.room_of.result t.times.result g.grid-of.result _ _ s.requires.3
-    w.room_of.ensures g.grid-of.ensures t.times.ensures p.put.ensures
-
-pub write-by-spec : {M : Type 1} → statement M
-write-by-spec =
-    tie.close
-    (tie.spec
-    cast-d
-    room-of-requires
-    grid-of-requires
-    times-requires
-    put-requires
-    same_length
-    returns)
+    let p = c in
+    let t = p in
+    let g = t in
+    let w = g in
+    let s = w in
+    whole _ _ _ _ w.room_of.result t.times.result g.grid_of-g.result _ _ s.requires.3
+    w.room_of.ensures g.grid_of-g.ensures t.times.ensures p.put.ensures

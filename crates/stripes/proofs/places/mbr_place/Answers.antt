@@ -6,9 +6,7 @@ use borrow.Author.Tests.{lt-ltb, le-ltb}
 use Rattle.codes.specs.Places.{start, triangle}
 use Rattle.codes.specs.Matrix.{mbr}
 use Rattle.stripes.specs.Arrays.{Placed}
-use borrow.Author.Rules.{rules}
-use Rattle.stripes.proofs.places.mbr_place.Statement.{statement}
-use Rattle.stripes.proofs.places.mbr_place.Tie as tie
+use Rattle.stripes.proofs.places.mbr_place.Goals as goal
 
 module _ (k d i j r : ℕ) where
   in-s : i < k → j < k → r ≡ triangle k i j → Placed (λ f. mbr k d f i j) r
@@ -27,35 +25,14 @@ module _ (k d i j r : ℕ) where
   unfolding mbr
   nowhere a b e f z = simp (le-ltb _ _ a, le-ltb _ _ b) (ap f e ∙ z)
 
-triangle-of-requires : tie.Need-triangle-of-requires
-triangle-of-requires c κs = search rules
+pub returns-then-j-k : goal.returns-then-j-k
+returns-then-j-k c = in-s _ _ _ _ _ (omega arith) (omega arith) c.triangle_of.ensures.0
 
-returns : tie.Need-returns
-returns c = in-s _ _ _ _ _ (omega arith) (omega arith) c.triangle-of.ensures.0
+pub returns-then-i-k : goal.returns-then-i-k
+returns-then-i-k c = in-t _ _ _ _ _ (omega arith) (omega arith) c.beside.ensures
 
-beside-requires : tie.Need-beside-requires
-beside-requires c κs = search rules
+pub returns-then-j-k-2 : goal.returns-then-j-k-2
+returns-then-j-k-2 c = below-s _ _ _ _ _ (omega arith) (omega arith) c.beside-then-j-k-2.ensures
 
-returns-2 : tie.Need-returns-2
-returns-2 c = in-t _ _ _ _ _ (omega arith) (omega arith) c.beside.ensures
-
-beside-requires-2 : tie.Need-beside-requires-2
-beside-requires-2 c κs = search rules
-
-returns-3 : tie.Need-returns-3
-returns-3 c = below-s _ _ _ _ _ (omega arith) (omega arith) c.beside2.ensures
-
-returns-4 : tie.Need-returns-4
-returns-4 c = nowhere _ _ _ _ _ (omega arith) (omega arith) (omega arith)
-
-pub mbr-place-spec : {M : Type 1} → statement M
-mbr-place-spec =
-    tie.close
-    (tie.spec
-    triangle-of-requires
-    returns
-    beside-requires
-    returns-2
-    beside-requires-2
-    returns-3
-    returns-4)
+pub returns : goal.returns
+returns c = nowhere _ _ _ _ _ (omega arith) (omega arith) (omega arith)

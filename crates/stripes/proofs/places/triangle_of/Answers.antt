@@ -1,0 +1,21 @@
+-- The two cases of the definition are the two of the code.
+use mathlib.Core.Path.{◌≡◌}
+use Prim.Native.Nat.{ℕ, ◌+◌, ◌-◌, ◌<◌, ◌≤◌}
+use native.Mathlib.Omega.{arith}
+use borrow.Author.Tests.{le-leb, lt-leb}
+use Rattle.codes.specs.Places.{start, triangle}
+use Rattle.stripes.proofs.places.triangle_of.Goals as goal
+
+upper : (w i j r : ℕ) → i ≤ j → r ≡ start w i → r + (j - i) ≡ triangle w i j
+unfolding triangle
+upper w i j r h e = simp (le-leb _ _ h) (omega arith)
+
+lower : (w i j r : ℕ) → j < i → r ≡ start w j → r + (i - j) ≡ triangle w i j
+unfolding triangle
+lower w i j r h e = simp (lt-leb _ _ h) (omega arith)
+
+pub returns-then-i-j : goal.returns-then-i-j
+returns-then-i-j c = (upper _ _ _ _ (omega arith) c.start_of.ensures.0, omega arith)
+
+pub returns : goal.returns
+returns c = (lower _ _ _ _ (omega arith) c.start_of-2.ensures.0, omega arith)

@@ -1,0 +1,30 @@
+-- The invariant: acc is the sum of the first j products.
+use mathlib.Core.Path.{◌∙◌, refl, sym, ap}
+use Prim.Native.Nat.{ℕ}
+use native.Mathlib.Omega.{arith}
+use Rattle.algebra.specs.Symbol.{F, symbol}
+use Rattle.algebra.specs.Bytes.{at}
+use Rattle.stripes.specs.Lent.{weighed}
+use Rattle.stripes.proofs.Lent.{weighed-none, weighed-step, helped-none, helped-is}
+use borrow.Author.Rules.{rules}
+use Rattle.stripes.proofs.rows.help_by.Goals as goal
+
+pub returns-then-share-gt31 : goal.returns-then-share-gt31
+returns-then-share-gt31 c = helped-none _ _ _ c.if-share-gt31.true
+
+pub loop-j-init : goal.loop-j-init
+loop-j-init c = (search rules, weighed-none _ _ _)
+
+pub loop-j-preserved : goal.loop-j-preserved
+loop-j-preserved c =
+    let o = c in
+    let l = o in
+    let s = l.args in
+    (search rules, weighed-step s.row.now s.t.now (at s.share.now) l.loop-j.j _ o.of.result.0 l.loop-j.invariant.1 c.term.ensures refl (ap symbol o.of.ensures) c.plus-acc.ensures)
+
+pub returns : goal.returns
+returns c =
+    let l = c in
+    let s = l.args in
+    l.loop-j.invariant.1 ∙ ap (λ (n : ℕ). (weighed n s.row.now s.t.now (at s.share.now)).val) (omega arith)
+    ∙ sym (ap (λ (x : F). x.val) (helped-is s.row.now s.t.now s.share.now (search rules)))
