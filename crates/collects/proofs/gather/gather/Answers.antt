@@ -1,0 +1,36 @@
+-- `collects::gather::gather` meets its contract: the message is read off the matrix that the shares give.
+-- Assumes nothing.
+use mathlib.Core.Path.{◌∙◌, sym, ap}
+use Prim.Native.Nat.{ℕ, ◌+◌, ◌*◌}
+use native.Mathlib.Omega.{arith}
+use lib.ListN.{length}
+use Rattle.algebra.specs.Bytes.{at}
+use Rattle.algebra.proofs.Bytes.{table-length}
+use Rattle.codes.proofs.Sizes.{alpha-high, d-high}
+use Rattle.collects.proofs.Gathering.{collects}
+use Rattle.collects.proofs.gather.gather.Goals as goal
+
+pub shares_in-c-requires : goal.shares_in-c-requires
+shares_in-c-requires c =
+    let p = c.requires in
+    let e = c.alpha-a.ensures in
+    (omega (arith, p.0.order, d-high _ p.0), omega (arith, e, alpha-high _ p.0), p.2 ∙ ap (λ (n : ℕ). c.args.code.k * n) (sym e))
+
+pub gathered-g-requires : goal.gathered-g-requires
+gathered-g-requires c = (c.requires.0, c.tables-t.ensures)
+
+pub read_off-requires : goal.read_off-requires
+read_off-requires c = (c.requires.0, c.alpha-a.ensures, c.requires.3)
+
+pub shape_of-output : goal.shape_of-output
+shape_of-output c = ap length c.read_off.ensures ∙ table-length _ _ ∙ sym c.requires.3
+
+pub returns : goal.returns
+returns c =
+    let s = c.args in
+    let r = c.requires.0 in
+    let e = c.alpha-a.ensures in
+    let h = c.shares_in-c in
+    c.read_off.ensures
+    ∙ collects s.code r s.nodes.now s.shares.now c.points_of-xs.result h.result c.gathered-g.result c.points_of-xs.ensures
+    (λ u m j n. h.ensures u m j (omega (arith, e)) ∙ ap (λ (a : ℕ). at s.shares.now (u * a + j)) e) c.gathered-g.ensures

@@ -1,0 +1,30 @@
+-- `collects::mbr::rests` meets its contract: before turn j, j columns are done.
+-- Assumes nothing.
+use mathlib.Core.Path.{◌∙◌, refl, ap}
+use native.Mathlib.Omega.{arith}
+use borrow.Author.Count.{below_none}
+use Rattle.algebra.specs.Symbol.{F, ◌⊕◌}
+use Rattle.collects.specs.Squares.{cells}
+use Rattle.algebra.proofs.Sums.{dot-same}
+use Rattle.collects.proofs.Squares.{holds-store}
+use borrow.Author.Rules.{rules}
+use Rattle.collects.proofs.mbr.rests.Goals as goal
+
+pub loop-j-init : goal.loop-j-init
+loop-j-init c = (search rules, search rules, search rules, below_none _)
+
+pub loop-j-preserved : goal.loop-j-preserved
+loop-j-preserved c =
+    let l = c.loop-j in
+    let s = c.args in
+    let e = c.column.ensures in (
+      search rules,
+      search rules,
+      e.0,
+      holds-store l.g c.rest.result (search rules) l.invariant.3
+          (λ u h. c.rest.ensures u h
+          ∙ ap (λ (x : F). cells s.y.now l.j u ⊕ x) (dot-same s.d (λ i m. refl) (λ i m. e.1 i (omega arith)))),
+    )
+
+pub returns : goal.returns
+returns c = λ i h. c.loop-j.invariant.3 i (omega arith)

@@ -1,0 +1,18 @@
+-- `collects::msr::part_q` meets its contract: before turn i, i entries are parted.
+-- Assumes nothing.
+use mathlib.Core.Path.{◌≡◌}
+use Prim.Native.Nat.{◌-◌, ◌≤◌}
+use lib.ListN.{length}
+use Rattle.algebra.specs.Sums.{Same}
+use Rattle.algebra.specs.Bytes.{at}
+use Rattle.collects.specs.Squares.{cells}
+use Rattle.algebra.specs.Frame.{skip}
+use Rattle.algebra.specs.Hollow.{second}
+use Rattle.collects.specs.Gather.{factors}
+use Rattle.collects.proofs.msr.part_q.Given as goal
+
+abbrev pub invariant-loop-i : goal.invariant-loop-i
+invariant-loop-i l = (l.i ≤ l.w) × (length l.q ≡ 31) × Same l.i (at l.q) (λ e. second (factors l.w l.rows) (cells l.r) l.u (skip l.u e))
+
+abbrev pub decreases-loop-i : goal.decreases-loop-i
+decreases-loop-i l = l.w - l.i
