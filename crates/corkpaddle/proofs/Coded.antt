@@ -1,6 +1,6 @@
 -- What is told and kept for a code run that is as long as a code, and for any other.
 --   says                  an answer that says one thing says what equals it
---   stopped, stays        a run of another length: refusal 5;  and the output as it was
+--   stopped, as_was       a run of another length: refusal 5;  the output as it was;   stays   both
 --   passed, goes_on       a run as long as a code: what the proved function tells;  and what it leaves in the output
 -- Assumes nothing.
 use mathlib.Core.Path.{◌≡◌, ◌∙◌, ap, subst}
@@ -22,9 +22,12 @@ module _ (run : List ℕ) (b : is_code run ≡ false) where
   unfolding coded
   stopped t s = says (rw b) s
 
-  pub stays : {r : Answer} (t : Told) (o l : List ℕ) → Says r (refused Length) → Says r (coded run t) × (o ≡ kept run o l)
+  pub as_was : (o l : List ℕ) → o ≡ kept run o l
   unfolding kept
-  stays t o l s = (stopped t s, rw b)
+  as_was o l = rw b
+
+  pub stays : {r : Answer} (t : Told) (o l : List ℕ) → Says r (refused Length) → Says r (coded run t) × (o ≡ kept run o l)
+  stays t o l s = (stopped t s, as_was o l)
 
 module _ (run : List ℕ) (g : is_code run ≡ true) where
   pub passed : {r : Answer} {t u : Told} → t ≡ u → Says r t → Says r (coded run u)
