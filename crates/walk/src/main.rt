@@ -4,17 +4,18 @@
 // A function that has a reader in a local is proved by hand, so this program asks for each record by its number.
 #![tactic(auto)]
 
-use libc::STDOUT_FILENO;
+// Standard output.
+const STDOUT: i32 = 1;
 use records::reading::{Read, body};
 use records::writing::put;
 
 fn say(text: &[u8]) {
-    io::write_all(STDOUT_FILENO, text);
+    io::write_all(STDOUT, text);
 }
 
 fn say_number(label: &[u8], n: usize) {
     say(label);
-    io::print_decimal(STDOUT_FILENO, n as u64);
+    io::print_decimal(STDOUT, n as u64);
 }
 
 // One record, which stands at a place: its kind byte is what stands between the place and the body. The next place is given back.
