@@ -4,10 +4,11 @@
 // A function that has a reader in a local is proved by hand, so this program asks for each record by its number.
 #![tactic(auto)]
 
-// Standard output.
-const STDOUT: i32 = 1;
 use records::reading::{Read, body};
 use records::writing::put;
+
+// Standard output.
+const STDOUT: i32 = 1;
 
 fn say(text: &[u8]) {
     io::write_all(STDOUT, text);
