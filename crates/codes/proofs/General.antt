@@ -89,7 +89,7 @@ module _ {k α h B : ℕ} {idx : ℕ → ℕ → ℕ} {lane row col : ℕ → �
   reading-at : (W : Grid) (b q i j : ℕ) → Stands B lane row col b q i j → entry B (reading α lane row col W) b ≡ W (q * α + i) j
   reading-at W b q i j s =
       entry-within B (reading α lane row col W) b s.within
-      ∙ ap₂ W (ap₂ (λ (x y : ℕ). x * α + y) s.in_lane s.in_row) s.in-col
+      ∙ ap₂ W (ap₂ (λ (x y : ℕ). x * α + y) s.in_lane s.in_row) s.in_col
 
   module _ (W : Grid) (S : Shape k α h W) (Y : Symmetric α W) where
     top_up : (i j : ℕ) → i ≤ j → j < α → filled B idx (reading α lane row col W) i j ≡ W i j

@@ -116,7 +116,7 @@ module _ (c : Code) (R : Rules c) (one : c.kind ≡ 1) where
         within = omega (arith, bytes-one-rows c R one);
         in_lane = lane-none (triangle c.k i j);
         in_row = row-s (triangle c.k i j) u.within ∙ u.row;
-        in-col = col-s (triangle c.k i j) u.within ∙ u.col;
+        in_col = col-s (triangle c.k i j) u.within ∙ u.col;
       }
 
   stands-t : (i j : ℕ) → i < c.k → j < c.d - c.k
@@ -130,7 +130,7 @@ module _ (c : Code) (R : Rules c) (one : c.kind ≡ 1) where
         within = omega (arith, bytes-one-rows c R one, block_within a b);
         in_lane = lane-none (s + n);
         in_row = row-t (s + n) (omega arith) ∙ ap (λ (x : ℕ). x / e) f ∙ block_row i b;
-        in-col = col-t (s + n) (omega arith) ∙ ap (λ (x : ℕ). c.k + x % e) f ∙ ap (λ (x : ℕ). c.k + x) (block-col i b);
+        in_col = col-t (s + n) (omega arith) ∙ ap (λ (x : ℕ). c.k + x % e) f ∙ ap (λ (x : ℕ). c.k + x) (block-col i b);
       }
 
   stands_up : (i j : ℕ) → i ≤ j → i < c.k → j < c.d → Stands (bytes c) (lane c) (row_of c) (col_of c) (idx_of c i j) 0 i j

@@ -52,10 +52,10 @@ module _ {k α h B : ℕ} {idx : ℕ → ℕ → ℕ} {lane row col : ℕ → �
 
   -- the place of an upper entry, and of its mirror image
   stands_up : {b q i j : ℕ} → Stands B lane row col b q i j → At (q * α + i) j b
-  stands_up s = inl (sym (ap₂ (λ (x y : ℕ). x * α + y) s.in_lane s.in_row), sym s.in-col)
+  stands_up s = inl (sym (ap₂ (λ (x y : ℕ). x * α + y) s.in_lane s.in_row), sym s.in_col)
 
   stands-down : {b q i j : ℕ} → Stands B lane row col b q i j → At (q * α + j) i b
-  stands-down s = inr (sym (ap₂ (λ (x y : ℕ). x * α + y) s.in_lane s.in-col), sym s.in_row)
+  stands-down s = inr (sym (ap₂ (λ (x y : ℕ). x * α + y) s.in_lane s.in_col), sym s.in_row)
 
   only-top : (i j : ℕ) → i < α → j < α → idx i j < B → At i j (idx i j)
   only-top i j a b c =

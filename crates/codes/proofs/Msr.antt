@@ -91,7 +91,7 @@ module _ (c : Code) (R : Rules c) (two : c.kind ≡ 2) where
         within = a;
         in_lane = e;
         in_row = row_in b q (triangle (c.k - 1) i j) e f ∙ u.row;
-        in-col = col-in b q (triangle (c.k - 1) i j) e f ∙ u.col;
+        in_col = col-in b q (triangle (c.k - 1) i j) e f ∙ u.col;
       }
 
   stands-first : (i j : ℕ) → i ≤ j → j < c.k - 1 → Stands (bytes c) (lane c) (row_of c) (col_of c) (idx_of c i j) 0 i j

@@ -19,7 +19,7 @@ pub record Stands (B : ℕ) (lane row col : ℕ → ℕ) (b q i j : ℕ) : Type 
   pub within : b < B
   pub in_lane : lane b ≡ q
   pub in_row : row b ≡ i
-  pub in-col : col b ≡ j
+  pub in_col : col b ≡ j
 
 pub record Layout (k α h B : ℕ) (idx : ℕ → ℕ → ℕ) (lane row col : ℕ → ℕ) : Type 0 where
   pub room : h ≤ α

@@ -18,5 +18,4 @@ made s at kind n k d ps e f g h l =
 
 pub returns : goal.returns
 returns c =
-    let k = c in
-    made _ _ _ _ _ _ _ k.points_at-points.ensures k.byte_after.ensures k.byte_after-2.ensures c.byte_after-3.ensures c.byte_after-4.ensures
+    made _ _ _ _ _ _ _ c.points_at-points.ensures c.byte_after.ensures c.byte_after-2.ensures c.byte_after-3.ensures c.byte_after-4.ensures

@@ -30,17 +30,17 @@ loop-i-init c = (search rules, from_start _ _)
 
 pub returns-then-p-ne0 : goal.returns-then-p-ne0
 returns-then-p-ne0 c =
-    let l = c in
-    let ps = l.args.points in
-    (sym (first-here (filled ps) 32 l.loop-i.i (omega arith) (other-point ps l.loop-i.i c.if-p-ne0.true)) ∙ l.loop-i.invariant.1, search rules)
+    let ps = c.args.points in
+    let l = c.loop-i in
+    (sym (first-here (filled ps) 32 l.i (omega arith) (other-point ps l.i c.if-p-ne0.true)) ∙ l.invariant.1, search rules)
 
 pub loop-i-preserved : goal.loop-i-preserved
 loop-i-preserved c =
-    let l = c in
-    let ps = l.args.points in
-    (search rules, sym (first_more (filled ps) 32 l.loop-i.i (omega arith) (zero-point ps l.loop-i.i c.if-p-ne0.false)) ∙ l.loop-i.invariant.1)
+    let ps = c.args.points in
+    let l = c.loop-i in
+    (search rules, sym (first_more (filled ps) 32 l.i (omega arith) (zero-point ps l.i c.if-p-ne0.false)) ∙ l.invariant.1)
 
 pub returns : goal.returns
 returns c =
-    let l = c in
-    (sym (first-none (filled l.args.points) 32 l.loop-i.i (omega arith)) ∙ l.loop-i.invariant.1, search rules)
+    let l = c.loop-i in
+    (sym (first-none (filled c.args.points) 32 l.i (omega arith)) ∙ l.invariant.1, search rules)
