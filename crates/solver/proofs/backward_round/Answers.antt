@@ -24,9 +24,8 @@ loop-i-init c = (search rules, search rules, λ ys r. row-then r (backward-open 
 
 pub loop-i-preserved : goal.loop-i-preserved
 loop-i-preserved c =
-    let o = c in
-    let l = o.loop-i in
-    let xs = o.args.xs.now in
+    let l = c.loop-i in
+    let xs = c.args.xs.now in
     (search rules, search rules, λ ys r. store _ _ l.i xs l.a ys (l.invariant.2 ys r) l.invariant.0 (search rules) (search rules) _ c.raised.ensures)
 
 pub returns : goal.returns
