@@ -1,0 +1,11 @@
+-- `rebuilds::weigh::factor_of` meets its contract: kind 1 has the factor 0; kind 2 has lambda, the power alpha of the failed node's point.
+use Rattle.rebuilds.proofs.Weighing.{factor-none, factor-power}
+use Rattle.rebuilds.proofs.weigh.factor_of.Goals as goal
+
+pub returns-then-code-eq1 : goal.returns-then-code-eq1
+returns-then-code-eq1 c = factor-none _ _ c.if-code-eq1.true
+
+pub returns : goal.returns
+returns c =
+    let s = c.args in
+    cc (factor-power s.code s.failed c.if-code-eq1.false)
