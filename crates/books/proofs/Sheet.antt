@@ -16,7 +16,7 @@ use Rattle.records.specs.Numbers.{digits}
 use Rattle.records.specs.Writing.{put_at}
 use Rattle.records.proofs.Digits.{length_digits}
 use Rattle.records.proofs.Runs.{length-put, take_put}
-use Rattle.codes.specs.Sizes.{alpha, bytes}
+use Rattle.codes.specs.Sizes.{alpha}
 use Rattle.codes.specs.Share.{share, symbol_for}
 use Rattle.codes.specs.declared.Code.{Code}
 use Rattle.codes.proofs.Sizes.{small}
