@@ -5,19 +5,21 @@
 use codes::{Code, Node};
 use field::Symbol;
 use lending::from_three;
-use libc::STDOUT_FILENO;
 use rebuilds::Counted;
 use triples::Helper;
 
 mod lending; // lending.rt: three helpers, lent as a list
 
+// The file that a program prints to.
+const STDOUT: i32 = 1;
+
 fn say(text: &[u8]) {
-    io::write_all(STDOUT_FILENO, text);
+    io::write_all(STDOUT, text);
 }
 
 fn say_number(n: u64) {
     say(b" ");
-    io::print_decimal(STDOUT_FILENO, n);
+    io::print_decimal(STDOUT, n);
 }
 
 fn say_byte(n: u8) {
