@@ -1,7 +1,7 @@
 // Document 01's whole file, read record by record: for each record its kind, where its body starts and ends, and the next place;
 // then the refusal at the end. After it the same file cut by one byte, and with another kind byte.
 //
-// A function that has a reader in a local is proved by hand, so this program asks for each record by its number.
+// The program asks for each record by its number.
 #![tactic(auto)]
 
 use records::reading::{Read, body};
