@@ -27,6 +27,7 @@ pub fn blank() -> Columns
 }
 
 // The columns with the helper put at the place i; where there is no such place, as they were.
+#[tactic(auto, unfolding(crate::specs::Columns::put_at))]
 pub fn put(columns: Columns, i: usize, helper: Helper) -> Columns
     ensures { result ≡ put_at columns i helper }
 {
