@@ -7,8 +7,12 @@
 ghost use Rattle.std.specs.Prelude.{◌≡◌, ◌≤◌, length};
 ghost use Rattle.io.specs.Counts.{IsPrefixLen};
 
-use libc::{STDIN_FILENO, STDOUT_FILENO};
 use records::kinds::ANSWER;
+
+// The numbers of standard input and standard output.
+const STDIN: i32 = 0;
+
+const STDOUT: i32 = 1;
 
 // What comes after a chunk of slips.
 #[derive(Clone, Copy)]
@@ -22,10 +26,10 @@ enum Next {
 fn turn(file: &mut [u8]) -> Next {
     let mut run = [0u8; 40960];
     let mut answers = [0u8; 8192];
-    let n = io::read_full(STDIN_FILENO, &mut run);
+    let n = io::read_full(STDIN, &mut run);
     let walked = streams::take_run(file, &run[..n], &mut answers);
     let m = walked.written;
-    if !io::write_all(STDOUT_FILENO, &answers[..m]) {
+    if !io::write_all(STDOUT, &answers[..m]) {
         return Next::Broken;
     }
     if walked.ended {
@@ -48,7 +52,7 @@ fn walk(file: &mut [u8]) {
                 return;
             }
             Next::Last => {
-                io::write_all(STDOUT_FILENO, file);
+                io::write_all(STDOUT, file);
                 return;
             }
             Next::More => {}
@@ -61,7 +65,7 @@ fn walk(file: &mut [u8]) {
 fn judged(file: &mut [u8]) {
     let refusal = streams::refusal_of(file);
     if refusal > 0 {
-        io::write_all(STDOUT_FILENO, &[ANSWER, refusal]);
+        io::write_all(STDOUT, &[ANSWER, refusal]);
         return;
     }
     walk(file);
@@ -72,7 +76,7 @@ fn fill(file: &mut [u8], from: usize, to: usize) -> usize
     requires { (from ≤ to) × (to ≤ length file.old) }
     ensures { (result ≤ to) × IsPrefixLen result file.new }
 {
-    from + io::read_full(STDIN_FILENO, &mut file[from..to])
+    from + io::read_full(STDIN, &mut file[from..to])
 }
 
 // Reads the share file: 45 bytes, then what its N record says.
