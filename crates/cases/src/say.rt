@@ -1,12 +1,14 @@
 // Words and numbers on standard output.
-use libc::STDOUT_FILENO;
+
+// The number of standard output, as the system gives it to each program.
+const STDOUT: i32 = 1;
 
 pub fn say(text: &[u8]) {
-    io::write_all(STDOUT_FILENO, text);
+    io::write_all(STDOUT, text);
 }
 
 pub fn say_number(n: u32) {
-    io::print_decimal(STDOUT_FILENO, n as u64);
+    io::print_decimal(STDOUT, n as u64);
 }
 
 pub fn say_byte(n: u8) {
