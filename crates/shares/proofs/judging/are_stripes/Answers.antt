@@ -13,15 +13,13 @@ loop-i-init c = (search rules, below_none _)
 
 pub returns-then-not-is_stripe : goal.returns-then-not-is_stripe
 returns-then-not-is_stripe c =
-    let l = c in
-    let a = l.args in
-    sym (below-stop a.total (stripe_good a.a a.file.now) l.loop-i.i c.loop-i-test.true (sym c.is_stripe.ensures ∙ c.if-not-is_stripe.true))
+    let a = c.args in
+    sym (below-stop a.total (stripe_good a.a a.file.now) c.loop-i.i c.loop-i-test.true (sym c.is_stripe.ensures ∙ c.if-not-is_stripe.true))
 
 pub loop-i-preserved : goal.loop-i-preserved
 loop-i-preserved c =
-    let l = c in
-    let a = l.args in
-    (search rules, below_next l.loop-i.i (stripe_good a.a a.file.now) l.loop-i.invariant.1 (sym c.is_stripe.ensures ∙ c.if-not-is_stripe.false))
+    let a = c.args in
+    (search rules, below_next c.loop-i.i (stripe_good a.a a.file.now) c.loop-i.invariant.1 (sym c.is_stripe.ensures ∙ c.if-not-is_stripe.false))
 
 pub returns : goal.returns
 returns c =

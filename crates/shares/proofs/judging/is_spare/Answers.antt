@@ -9,15 +9,13 @@ loop-j-init c = let a = c.args in (search rules, spare-start a.a a.file.now a.at
 
 pub returns-then-file-at-ne0 : goal.returns-then-file-at-ne0
 returns-then-file-at-ne0 c =
-    let l = c in
-    let a = l.args in
-    spare-stop a.a a.file.now a.at l.loop-j.j l.loop-j.invariant.0 c.loop-j-test.true c.if-file-at-ne0.true
+    let a = c.args in
+    spare-stop a.a a.file.now a.at c.loop-j.j c.loop-j.invariant.0 c.loop-j-test.true c.if-file-at-ne0.true
 
 pub loop-j-preserved : goal.loop-j-preserved
 loop-j-preserved c =
-    let l = c in
-    let a = l.args in
-    (search rules, spare-next a.a a.file.now a.at l.loop-j.j l.loop-j.invariant.1 c.if-file-at-ne0.false)
+    let a = c.args in
+    (search rules, spare-next a.a a.file.now a.at c.loop-j.j c.loop-j.invariant.1 c.if-file-at-ne0.false)
 
 pub returns : goal.returns
 returns c = let a = c.args in spare-end a.a a.file.now a.at c.loop-j.j c.loop-j-test.false c.loop-j.invariant.1

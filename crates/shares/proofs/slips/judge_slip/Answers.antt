@@ -10,10 +10,10 @@ use Rattle.shares.proofs.Faults.{wrong-length, wrong-kind, wrong-number, wrong-s
 use Rattle.shares.proofs.slips.judge_slip.Goals as goal
 
 pub returns-then-slip-ne10 : goal.returns-then-slip-ne10
-returns-then-slip-ne10 c = let b = c in wrong-length b.args.file.now b.args.slip.now c.if-slip-ne10.true
+returns-then-slip-ne10 c = wrong-length c.args.file.now c.args.slip.now c.if-slip-ne10.true
 
 pub returns-then-slip-ne-SLIP : goal.returns-then-slip-ne-SLIP
-returns-then-slip-ne-SLIP c = let b = c in wrong-kind b.args.file.now b.args.slip.now c.if-slip-ne-SLIP.true
+returns-then-slip-ne-SLIP c = wrong-kind c.args.file.now c.args.slip.now c.if-slip-ne-SLIP.true
 
 pub returns-then-count : goal.returns-then-count
 returns-then-count c =
@@ -29,27 +29,24 @@ returns-then-number-count c =
 
 pub returns-then-number2 : goal.returns-then-number2
 returns-then-number2 c =
-    let w = c in
-    let s = w.args.file.now in
-    let p = w.args.slip.now in
-    let e : slip_number p ≡ count_in s + 1 = omega (arith, w.if-number-count.false, w.number4-number.ensures, w.number4-count.ensures) in
-    wrong-stripe s p w.if-slip-ne10.false w.if-slip-ne-SLIP.false e (omega (arith, c.if-number2.true, c.number2-2.ensures, c.number2.ensures))
+    let s = c.args.file.now in
+    let p = c.args.slip.now in
+    let e : slip_number p ≡ count_in s + 1 = omega (arith, c.if-number-count.false, c.number4-number.ensures, c.number4-count.ensures) in
+    wrong-stripe s p c.if-slip-ne10.false c.if-slip-ne-SLIP.false e (omega (arith, c.if-number2.true, c.number2-2.ensures, c.number2.ensures))
 
 pub returns-then-number2-bytes : goal.returns-then-number2-bytes
 returns-then-number2-bytes c =
-    let w = c in
-    let s = w.args.file.now in
-    let p = w.args.slip.now in
-    let e : slip_number p ≡ count_in s + 1 = omega (arith, w.if-number-count.false, w.number4-number.ensures, w.number4-count.ensures) in
-    wrong-index s p w.if-slip-ne10.false w.if-slip-ne-SLIP.false e
+    let s = c.args.file.now in
+    let p = c.args.slip.now in
+    let e : slip_number p ≡ count_in s + 1 = omega (arith, c.if-number-count.false, c.number4-number.ensures, c.number4-count.ensures) in
+    wrong-index s p c.if-slip-ne10.false c.if-slip-ne-SLIP.false e
     (omega (arith, c.if-number2-bytes.true, c.bytes.ensures ∙ ap bytes c.code_in.ensures, c.number2-3.ensures))
 
 pub returns : goal.returns
 returns c =
-    let w = c in
-    let s = w.args.file.now in
-    let p = w.args.slip.now in
-    let e : slip_number p ≡ count_in s + 1 = omega (arith, w.if-number-count.false, w.number4-number.ensures, w.number4-count.ensures) in
-    no-fault s p w.if-slip-ne10.false w.if-slip-ne-SLIP.false e
+    let s = c.args.file.now in
+    let p = c.args.slip.now in
+    let e : slip_number p ≡ count_in s + 1 = omega (arith, c.if-number-count.false, c.number4-number.ensures, c.number4-count.ensures) in
+    no-fault s p c.if-slip-ne10.false c.if-slip-ne-SLIP.false e
     (omega (arith, c.if-number2.false, c.number2-2.ensures, c.number2.ensures))
     (omega (arith, c.if-number2-bytes.false, c.bytes.ensures ∙ ap bytes c.code_in.ensures, c.number2-3.ensures))
