@@ -27,7 +27,6 @@ use Rattle.codes.specs.Judge.{sized, judge_reasons, pair_in}
 use Rattle.codes.specs.declared.Code.{Code}
 use Rattle.codes.proofs.Bools.{apart, by-test, and_left, and_right}
 use Rattle.codes.proofs.Told.{refusal-skip, refusal-stop, answered-number}
-use Rattle.stripes.specs.Lists.{within}
 use Rattle.shares.specs.Fields.{code_in, node_in, stripes_in, count_in, stripe_at}
 use Rattle.shares.specs.File.{below, zero_past, spare, stripe_good, totalled, node_reasons, file_reasons, file_told, given, say_filed, node_told, stripes_told}
 use Rattle.shares.specs.File as share-file

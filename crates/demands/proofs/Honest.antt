@@ -2,19 +2,17 @@
 --   demand2-rebuild, demand2-collect, demand2-fits
 -- Assumes nothing.
 use mathlib.Core.Path.{◌≡◌, ◌∙◌, sym, ap}
-use mathlib.Core.Logic.{inl, inr, ◌≢◌}
+use mathlib.Core.Logic.{inl, inr}
 use mathlib.Core.Bool.{Bool, true, false, not, ◌&&◌}
-use mathlib.Core.List.{List, [], ◌∷◌, ◌++◌}
+use mathlib.Core.List.{List}
 use Prim.Native.Nat.{ℕ, ◌*◌, ◌<◌, ◌≤◌}
 use native.Mathlib.Omega.{arith}
-use lib.Dec.{eqb}
 use lib.ListN.{length, get_or}
 use borrow.Author.Tests.{eq-eqb}
 use Rattle.algebra.proofs.Bytes.{table-length}
-use Rattle.codes.specs.Told.{Told, Reason, ◌when◌, done, answered}
-use Rattle.codes.specs.Reasons.{Clear}
-use Rattle.codes.specs.Sizes.{alpha, bytes}
-use Rattle.codes.specs.Judge.{judge_reasons, pair_in, judged}
+use Rattle.codes.specs.Told.{done}
+use Rattle.codes.specs.Sizes.{alpha}
+use Rattle.codes.specs.Judge.{pair_in, judged}
 use Rattle.codes.specs.Share.{share, symbol_for, symbols_for, shares_of}
 use Rattle.codes.specs.Rules.{Rules, Chosen}
 use Rattle.codes.specs.Rebuild.{rebuilt}
@@ -27,9 +25,9 @@ use Rattle.stripes.specs.Lists.{every, has, repeats, differ, within}
 use Rattle.stripes.proofs.Ladder.{judged-done, done-leaves}
 use Rattle.rebuilds.specs.Rebuild.{rebuild_reasons, rebuild_told, rebuild_leaves}
 use Rattle.collects.specs.Collect.{collect_reasons, collect_told, collect_leaves}
-use Rattle.demands.specs.Inputs.{Among, Two, Outside, Twice, Differing, Common}
+use Rattle.demands.specs.Inputs.{Among, Outside, Twice, Differing}
 use Rattle.demands.specs.Rebuild.{rebuild-share}
-use Rattle.demands.specs.Collect.{Message, collect-share, collect-fits}
+use Rattle.demands.proofs.Collect.{collect-share, collect-fits}
 use Rattle.demands.specs.Honest.{Counts, Asked, Gathers, Demand2-rebuild, Demand2-collect, Demand2-fits}
 use Rattle.demands.proofs.Inputs.{outside-says, every-says, has-says, repeats-says, differ-says}
 

@@ -1,6 +1,6 @@
 -- Demand 1, proved. Says and Inputs: tests and the words for them. Words: from tests to words. Judge, Answer, Stripes, Reading, Files, Batches: the operations.
 -- Crossing: the outside boundary.
--- Fixed, FixedFiles: what meets it is one answer. Demand 2, proved: Honest, Stored, HonestBatch. WrongStripes: what does not meet it.
+-- Fixed, FixedFiles: what meets it is one answer. Demand 2, proved: Collect, Honest, Stored, HonestBatch. WrongStripes: what does not meet it.
 -- Demand 3, proved. Books, Taken, Touched: slips. Joined, Helpers, Renewed: rebuilding. Sent: what our operations give.
 -- History: the demand. Wrong: what does not meet it. WrongFiles: wrong programs on share files, written out.
 -- Two answers that meet a promise are equal. Only: what an answer says fixes it. EqualField, EqualRecords, EqualCodes, EqualStripes, EqualFiles, EqualReaders, EqualTriples, EqualStreams,
@@ -18,6 +18,7 @@ pub mod Crossing
 pub mod Fixed
 pub mod FixedFiles
 pub mod Only
+pub mod Collect
 pub mod Honest
 pub mod Stored
 pub mod Books
