@@ -7,7 +7,7 @@ ghost use Rattle.batches.specs.Batch.{help_kind, faults, noded, repeated};
 ghost use Rattle.batches.specs.Tests.{Fits, alike};
 
 use crate::columns::{COUNT, HELPER, STRIPE, column};
-use codes::{Code, Judged, Refusal};
+use codes::{Code, Refusal};
 use records::kinds::HELP;
 use records::numbers::{number2, number4};
 use stripes::lists::{has, is_within, repeats};
@@ -95,31 +95,31 @@ fn are_alike(asked: u8, batch: &[u8], d: usize) -> bool
 }
 
 // The first fault of a batch of d records. other: it has another count than it must have; placed: it names the stripe that it must name.
-pub fn judge_faults(code: Code, asked: u8, batch: &[u8], other: bool, placed: bool) -> Judged
+pub fn judge_faults(code: Code, asked: u8, batch: &[u8], other: bool, placed: bool) -> Result<(), Refusal>
     requires { (1 ≤ code.d) × Fits code.d batch.now }
     ensures { say_judged result ≡ answered (faults code asked batch.now other placed) (pair_in code) 0 }
 {
     let d = code.d as usize;
     if !are_helps(batch, d) {
-        return Judged::Refused(Refusal::Record);
+        return Err(Refusal::Record);
     }
     if !is_within(code, asked) {
-        return Judged::Refused(Refusal::Node);
+        return Err(Refusal::Node);
     }
     if !are_noded(code, batch, d) {
-        return Judged::Refused(Refusal::Node);
+        return Err(Refusal::Node);
     }
     if are_repeated(asked, batch, d) {
-        return Judged::Refused(Refusal::Repeat);
+        return Err(Refusal::Repeat);
     }
     if !are_alike(asked, batch, d) {
-        return Judged::Refused(Refusal::Mixed);
+        return Err(Refusal::Mixed);
     }
     if other {
-        return Judged::Refused(Refusal::Mixed);
+        return Err(Refusal::Mixed);
     }
     if !placed {
-        return Judged::Refused(Refusal::Place);
+        return Err(Refusal::Place);
     }
-    Judged::Good
+    Ok(())
 }

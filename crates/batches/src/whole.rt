@@ -12,14 +12,14 @@ ghost use Rattle.batches.specs.Tests.{Fits};
 use crate::columns::{COUNT, HELPER, STRIPE, are_same, column};
 use crate::faults::judge_faults;
 use crate::stripe::write_stripe;
-use codes::{Code, Judged, Node, Refusal};
-use rebuilds::{Counted, plan};
+use codes::{Code, Node, Refusal};
+use rebuilds::plan;
 use records::numbers::{number2, number4};
 use records::writing::put;
 use shares::{code_record, judge_total, node_record, stripe_at};
 
 // The first fault of the batch i of a file of that count.
-fn judge_turn(code: Code, asked: u8, batch: &[u8], count: u32, i: u16) -> Judged
+fn judge_turn(code: Code, asked: u8, batch: &[u8], count: u32, i: u16) -> Result<(), Refusal>
     requires { (1 ≤ code.d) × Fits code.d batch.now }
     ensures { say_judged result ≡ answered (turn_faults code asked batch.now count i) (pair_in code) 0 }
 {
@@ -29,7 +29,7 @@ fn judge_turn(code: Code, asked: u8, batch: &[u8], count: u32, i: u16) -> Judged
 }
 
 // The first fault of all batches in turn.
-fn judge_batches(code: Code, asked: u8, total: u16, batches: &[u8]) -> Judged
+fn judge_batches(code: Code, asked: u8, total: u16, batches: &[u8]) -> Result<(), Refusal>
     requires { Rules code × (length batches.now ≡ total * (code.d * 10)) }
     ensures { say_judged result ≡ answered (faults_from code asked batches.now 0 total) (pair_in code) 0 }
 {
@@ -39,30 +39,24 @@ fn judge_batches(code: Code, asked: u8, total: u16, batches: &[u8]) -> Judged
     while i < total {
         let start = (i as usize) * size;
         let end = start + size;
-        let judged = judge_turn(code, asked, &batches[start..end], count, i);
-        if let Judged::Refused(r) = judged {
-            return Judged::Refused(r);
-        }
+        judge_turn(code, asked, &batches[start..end], count, i)?;
         i += 1;
     }
-    Judged::Good
+    Ok(())
 }
 
 // The refusals of a file's rebuild into an output with room for so many bytes.
-fn judge_whole(code: Code, asked: u8, stripes: u32, batches: &[u8], room: usize) -> Judged
+fn judge_whole(code: Code, asked: u8, stripes: u32, batches: &[u8], room: usize) -> Result<(), Refusal>
     ensures { (o : List ℕ) → length o ≡ room → say_judged result ≡ answered (whole_reasons code asked stripes batches.now o) (pair_in code) 0 }
 {
-    let judged = judge_total(code, stripes);
-    if let Judged::Refused(r) = judged {
-        return Judged::Refused(r);
-    }
+    judge_total(code, stripes)?;
     let total = stripes as u16;
     let d = code.d as usize;
     if batches.len() != (stripes as usize) * (d * 10) {
-        return Judged::Refused(Refusal::Length);
+        return Err(Refusal::Length);
     }
     if room != stripe_at(total) {
-        return Judged::Refused(Refusal::Length);
+        return Err(Refusal::Length);
     }
     judge_batches(code, asked, total, batches)
 }
@@ -98,18 +92,15 @@ pub fn rebuild_file(
     stripes: u32,
     batches: &[u8],
     output: &mut [u8],
-) -> Counted
+) -> Result<u32, Refusal>
     ensures told { say_counted result ≡ whole_told code asked.0 stripes batches.now output.old }
     ensures left { output.new ≡ whole_leaves code asked.0 stripes batches.now output.old }
 {
-    let judged = judge_whole(code, asked.0, stripes, batches, output.len());
-    if let Judged::Refused(r) = judged {
-        return Counted::Refused(r);
-    }
+    judge_whole(code, asked.0, stripes, batches, output.len())?;
     let count = number4(batches, COUNT);
     let total = stripes as u16;
     put(output, 0, &code_record(code));
     put(output, 37, &node_record(asked, total, count));
     write_stripes(code, asked, total, batches, output);
-    Counted::Done(count)
+    Ok(count)
 }

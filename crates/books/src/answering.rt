@@ -5,14 +5,14 @@ ghost use Rattle.field.specs.Tables.{tables};
 ghost use Rattle.stripes.specs.Encode.{say_encoded};
 ghost use Rattle.stripes.specs.Lent.{row_bytes};
 ghost use Rattle.shares.specs.Fields.{code_in, node_in, count_in, stripe_at};
-ghost use Rattle.shares.specs.File.{say_filed};
 ghost use Rattle.books.specs.Answer.{answers_from, answer_told, answer_leaves};
 
 use codes::{Code, Node, Refusal};
 use field::tables;
 use records::writing::put;
-use shares::{Filed, code_in, help_record, is_node, judge_file, stripe_at};
-use stripes::{Encoded, help_by, row};
+use shares::{Filed, code_in, help_record, judge_file, stripe_at};
+use stripes::lists::is_within;
+use stripes::{help_by, row};
 
 // The H records of all stripes over an output of their length, by the failed node's row and the table of products.
 fn answers_by(
@@ -64,45 +64,26 @@ fn write_answers(
     );
 }
 
-// A file's refusal, handed on.
-fn refused(judged: Filed) -> Encoded
-    requires { (say_filed judged).number ≡ 0 → ⊥ }
-    ensures { say_encoded result ≡ say_filed judged }
-{
-    match judged {
-        Filed::Refused(r) => Encoded::Refused(r),
-        Filed::Good {
-            node: _,
-            stripes: _,
-            count: _,
-        } => Encoded::Done,
-    }
-}
-
 // Judges the file, then writes its answers for the failed node.
-pub fn answer_for(file: &[u8], failed: Node, output: &mut [u8]) -> Encoded
+pub fn answer_for(file: &[u8], failed: Node, output: &mut [u8]) -> Result<(), Refusal>
     ensures told { say_encoded result ≡ answer_told file.now failed.0 output.old }
     ensures left { output.new ≡ answer_leaves file.now failed.0 output.old }
 {
-    let judged = judge_file(file);
-    let Filed::Good {
+    let Filed {
         node,
         stripes,
         count,
-    } = judged
-    else {
-        return refused(judged);
-    };
+    } = judge_file(file)?;
     if output.len() != (stripes as usize) * 10 {
-        return Encoded::Refused(Refusal::Length);
+        return Err(Refusal::Length);
     }
     let code = code_in(file);
-    if !is_node(code, failed.0) {
-        return Encoded::Refused(Refusal::Node);
+    if !is_within(code, failed.0) {
+        return Err(Refusal::Node);
     }
-    if failed.0 == node.0 {
-        return Encoded::Refused(Refusal::Repeat);
+    if failed == node {
+        return Err(Refusal::Repeat);
     }
     write_answers(file, code, node, failed, count, stripes, output);
-    Encoded::Done
+    Ok(())
 }

@@ -9,11 +9,12 @@ ghost use Rattle.shares.specs.Fields.{stripe_at, stripe_record};
 ghost use Rattle.shares.specs.Afresh.{afresh};
 ghost use Rattle.books.specs.Cut.{cut_told, cut_leaves};
 
-use codes::{Code, Judged, Node, Refusal};
+use codes::{Code, Node, Refusal};
 use field::tables;
 use records::writing::put;
-use shares::{code_record, is_node, judge_total, node_record, stripe_at, stripe_record};
-use stripes::{Encoded, encode_by, row};
+use shares::{code_record, judge_total, node_record, stripe_at, stripe_record};
+use stripes::lists::is_within;
+use stripes::{encode_by, row};
 
 // The D record of one stripe of an accepted code, by a lent row and a lent table.
 fn stripe_of(code: Code, row: &[u8; 31], t: &[u8; 768], i: u16, message: &[u8]) -> [u8; 34]
@@ -63,24 +64,21 @@ fn write_file(code: Code, node: Node, stripes: u16, book: &[u8], output: &mut [u
 }
 
 // Cuts a book: writes the node's fresh share file of it.
-pub fn cut(code: Code, node: Node, stripes: u32, book: &[u8], output: &mut [u8]) -> Encoded
+pub fn cut(code: Code, node: Node, stripes: u32, book: &[u8], output: &mut [u8]) -> Result<(), Refusal>
     ensures told { say_encoded result ≡ cut_told code node.0 stripes book.now output.old }
     ensures left { output.new ≡ cut_leaves code node.0 stripes book.now output.old }
 {
-    let judged = judge_total(code, stripes);
-    if let Judged::Refused(r) = judged {
-        return Encoded::Refused(r);
-    }
+    judge_total(code, stripes)?;
     let total = stripes as u16;
     if book.len() != (stripes as usize) * code.bytes() {
-        return Encoded::Refused(Refusal::Length);
+        return Err(Refusal::Length);
     }
     if output.len() != stripe_at(total) {
-        return Encoded::Refused(Refusal::Length);
+        return Err(Refusal::Length);
     }
-    if !is_node(code, node.0) {
-        return Encoded::Refused(Refusal::Node);
+    if !is_within(code, node.0) {
+        return Err(Refusal::Node);
     }
     write_file(code, node, total, book, output);
-    Encoded::Done
+    Ok(())
 }

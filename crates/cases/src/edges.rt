@@ -1,16 +1,16 @@
 // The edges of the judge. For each, a line with what is judged, the answer's number and, for refusal 4, its pair.
 use crate::say::{say, say_number};
-use codes::{Code, Judged};
+use codes::Code;
 use field::Symbol;
 
 fn show(label: &[u8], code: Code) {
     say(label);
     say(b": ");
     match codes::judge(code) {
-        Judged::Good => {
+        Ok(()) => {
             say(b"0");
         }
-        Judged::Refused(r) => {
+        Err(r) => {
             say_number(r.number() as u32);
             if r.number() == 4 {
                 say(b" at ");

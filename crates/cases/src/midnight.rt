@@ -6,7 +6,6 @@ use batches::rebuild_file;
 use books::{answer_for, cut};
 use codes::{Code, Node};
 use field::Symbol;
-use rebuilds::Counted;
 use records::numbers::number4;
 use shares::take_slip;
 
@@ -45,7 +44,7 @@ fn show(file: &[u8; 79]) {
 }
 
 fn number_of(answer: Counted) -> u32 {
-    if let Counted::Refused(r) = answer {
+    if let Err(r) = answer {
         return r.number() as u32;
     }
     0

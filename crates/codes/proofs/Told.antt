@@ -9,7 +9,8 @@ use native.Mathlib.Omega.{arith}
 use lib.Dec.{eqb}
 use lib.ListN.{get_or}
 use borrow.Author.Tests.{ne_eqb, eqb-false, not-true}
-use Rattle.codes.specs.Told.{Told, Reason, ◌when◌, number_of, first_of, second_of, refused, done, refusal, tell, answered}
+use Rattle.std.specs.Prelude.{Result, Ok, Err, IsErrAnd}
+use Rattle.codes.specs.Told.{Told, Reason, ◌when◌, number_of, first_of, second_of, refused, done, say, refusal, tell, answered}
 use Rattle.codes.specs.Reasons.{Raised, Clear, numbered}
 use Rattle.codes.specs.declared.Refusal.{Refusal}
 use Rattle.codes.specs.declared.Refusal.TheVariants.{Record, Kind, Size, Points, Length, Node, Repeat, Mixed, Order, Place}
@@ -217,3 +218,15 @@ named_back Place = refl
 
 pub told-only : (r s : Refusal) → refused r ≡ refused s → r ≡ s
 told-only r s e = sym (named_back r) ∙ ap (λ (t : Told). named t.number t.first t.second) e ∙ named_back s
+
+-- what an answer says, from what it is, and a refusal that a `?` hands on
+
+pub done-from : {A : Type 0} (v : A → ℕ) {j : Result A Refusal} {x : A} {t : Told} → j ≡ Ok x → say v j ≡ t → done (v x) ≡ t
+done-from v g e = sym (ap (say v) g) ∙ e
+
+pub refused-from : {A : Type 0} (v : A → ℕ) {j : Result A Refusal} {r : Refusal} {t : Told} → j ≡ Err r → say v j ≡ t → refused r ≡ t
+refused-from v g e = sym (ap (say v) g) ∙ e
+
+pub handed-on : {A : Type 0} (v : A → ℕ) (j : Result A Refusal) (r : Refusal) {t : Told} → IsErrAnd j (λ d. d ≡ r) → refused r ≡ t → say v j ≡ t
+handed-on v (Ok a) r h e = absurd h
+handed-on v (Err d) r h e = ap refused h ∙ e

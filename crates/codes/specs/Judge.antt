@@ -8,15 +8,14 @@
 --   judge_reasons c               the reasons for refusing c, in order;   pair_of, pair_in c    the pair that refusal 4 names, from 1
 --   judged c                     what the judge tells of c;   say_judged   what its answer says
 -- Assumes nothing.
-use Rattle.std.specs.Prelude.{Bool, not, ◌&&◌, ◌||◌, cond, List, [], ◌∷◌, map, ℕ, ◌+◌, ◌*◌, ◌-◌, ◌%◌, eqb, ltb, leb, get_or}
+use Rattle.std.specs.Prelude.{Bool, not, ◌&&◌, ◌||◌, cond, List, [], ◌∷◌, map, ℕ, ◌+◌, ◌*◌, ◌-◌, ◌%◌, eqb, ltb, leb, get_or, Result}
 use Rattle.field.specs.Field.{pow}
 use Rattle.field.specs.declared.Symbol.{Symbol}
 use Rattle.codes.specs.First.{first}
 use Rattle.codes.specs.Sizes.{none}
-use Rattle.codes.specs.Told.{Told, Reason, ◌when◌, refused, done, answered}
+use Rattle.codes.specs.Told.{Told, Reason, ◌when◌, say, answered}
 use Rattle.codes.specs.declared.Code.{Code}
-use Rattle.codes.specs.declared.Judged.{Judged}
-use Rattle.codes.specs.declared.Judged.TheVariants.{Good, Refused}
+use Rattle.codes.specs.declared.Refusal.{Refusal}
 
 unfoldable pub known : ℕ → Bool
 known kind = eqb kind 1 || eqb kind 2
@@ -72,6 +71,5 @@ judge_reasons c =
 unfoldable pub judged : Code → Told
 judged c = answered (judge_reasons c) (pair_in c) 0
 
-abbrev pub say_judged : Judged → Told
-say_judged Good = done 0
-say_judged (Refused r) = refused r
+abbrev pub say_judged : {A : Type 0} → Result A Refusal → Told
+say_judged r = say (λ _. 0) r

@@ -3,6 +3,7 @@ pub mod Reasons
 pub mod First
 pub mod Judge
 pub mod Rules
+pub mod Known
 pub mod Sizes
 pub mod Body
 pub mod Places

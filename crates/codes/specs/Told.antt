@@ -2,12 +2,13 @@
 --   Told                 a refusal's number (0: done), its pair, and the value that a done answer carries (0 on a refusal)
 --   number_of, first_of, second_of      document 01's number and pair of each refusal
 --   refused r            what the refusal r says;   done v    what a done answer with the value v says
+--   say v r              what an answer says: done with the value v of what it gives, or its refusal
 --   n when t             a reason: refusal n holds where the test t does
 --   refusal rs           of reasons in their order the first that holds: its number, and 0 where none does
 --   tell n p v           what the number n says, with the pair p of refusal 4 and the value v of done
 --   answered rs p v      the answer of an operation whose reasons are rs, with the pair p of refusal 4 and the value v of done
 -- Assumes nothing.
-use Rattle.std.specs.Prelude.{Bool, cond, List, [], ◌∷◌, ℕ, eqb}
+use Rattle.std.specs.Prelude.{Bool, cond, List, [], ◌∷◌, ℕ, eqb, Result, Ok, Err}
 use Rattle.codes.specs.declared.Refusal.{Refusal}
 use Rattle.codes.specs.declared.Refusal.TheVariants.{Record, Kind, Size, Points, Length, Node, Repeat, Mixed, Order, Place}
 
@@ -58,6 +59,10 @@ refused r = record { number = number_of r; first = first_of r; second = second_o
 
 abbrev pub done : ℕ → Told
 done v = record { number = 0; first = 0; second = 0; value = v }
+
+abbrev pub say : {A : Type 0} → (A → ℕ) → Result A Refusal → Told
+say v (Ok a) = done (v a)
+say v (Err r) = refused r
 
 -- a refusal's number, and whether its reason holds
 pub record Reason : Type 0 where

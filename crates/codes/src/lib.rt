@@ -1,18 +1,20 @@
 // Codes: what a code is, which codes are accepted, and what each refusal is.
 #![tactic(auto)]
 
-ghost use Rattle.std.specs.Prelude.{◌≡◌, ◌-◌, get_or};
+ghost use Rattle.std.specs.Prelude.{◌≡◌, ◌-◌, get_or, IfOk};
 ghost use Rattle.codes.specs.Told.{number_of, first_of, second_of};
 ghost use Rattle.codes.specs.Sizes.{alpha, bytes, none};
 ghost use Rattle.codes.specs.Judge.{judged, say_judged};
 
 use field::Symbol;
 
+mod accepted; // accepted.rt: a code that the judge accepted
 mod body; // body.rt: a code read off the body of its C record
 mod cells; // cells.rt: where a message's symbol stands in the message matrix
 mod limits; // limits.rt: the kinds and sizes that a code may have
 mod points; // points.rt: the first offending pair of points, and unused points
 
+pub use accepted::Accepted;
 pub use body::code_at;
 pub use cells::Cell;
 use limits::less;
@@ -20,7 +22,7 @@ pub use limits::{is_known, is_sized};
 use points::{judge_points, marks_of, point_in};
 
 // A station's number, from 1. It cannot be multiplied, and a symbol cannot stand for it.
-#[derive(Clone, Copy)]
+#[derive(Clone, Copy, PartialEq, Eq)]
 pub struct Node(pub u8);
 
 // A code: its kind, the numbers n, k and d, and 32 places for points, of which the first n count.
@@ -34,7 +36,7 @@ pub struct Code {
 }
 
 // Document 01's refusals, by its names. Points names the first offending pair of places.
-#[derive(Clone, Copy)]
+#[derive(Clone, Copy, PartialEq, Eq)]
 pub enum Refusal {
     Record,
     Kind,
@@ -46,13 +48,6 @@ pub enum Refusal {
     Mixed,
     Order,
     Place,
-}
-
-// What the judge says of a code.
-#[derive(Clone, Copy)]
-pub enum Judged {
-    Good,
-    Refused(Refusal),
 }
 
 impl Refusal {
@@ -146,15 +141,17 @@ impl Code {
 }
 
 // The judge: document 01's refusals 2, 3 and 4, the last with its pair of places.
-pub fn judge(code: Code) -> Judged
-    ensures { say_judged result ≡ judged code }
+pub fn judge(code: Code) -> Result<Accepted, Refusal>
+    ensures answer { say_judged result ≡ judged code }
+    ensures same { IfOk result (λ a. a.code ≡ code) }
 {
     if !is_known(code.kind) {
-        return Judged::Refused(Refusal::Kind);
+        return Err(Refusal::Kind);
     }
     if !is_sized(code) {
-        return Judged::Refused(Refusal::Size);
+        return Err(Refusal::Size);
     }
     let points = code.points;
-    judge_points(marks_of(code, points), points, code.n as usize)
+    judge_points(marks_of(code, points), points, code.n as usize)?;
+    Ok(Accepted { code })
 }

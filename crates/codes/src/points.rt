@@ -5,7 +5,7 @@ ghost use Rattle.codes.specs.Told.{◌when◌, answered};
 ghost use Rattle.codes.specs.Judge.{mark, marks, pair_first, pair_second, unused_at, pointed, pair_of, say_judged};
 
 use crate::limits::less;
-use crate::{Code, Judged, Refusal};
+use crate::{Code, Refusal};
 use field::Symbol;
 
 // Two places, from 0.
@@ -95,7 +95,7 @@ fn place(i: usize) -> u8
 }
 
 // What the marks and the unused points of a code say.
-pub fn judge_points(m: [u8; 32], points: [Symbol; 32], n: usize) -> Judged
+pub fn judge_points(m: [u8; 32], points: [Symbol; 32], n: usize) -> Result<(), Refusal>
     requires { n ≤ 32 }
     ensures { say_judged result ≡ answered ((4 when not (pointed m points n)) ∷ []) (pair_of m points n) 0 }
 {
@@ -103,17 +103,17 @@ pub fn judge_points(m: [u8; 32], points: [Symbol; 32], n: usize) -> Judged
     let first = pair.0;
     let second = pair.1;
     if first < n {
-        return Judged::Refused(Refusal::Points {
+        return Err(Refusal::Points {
             first: place(first),
             second: place(second),
         });
     }
     let unused = first_unused(points, n);
     if unused < 32 {
-        return Judged::Refused(Refusal::Points {
+        return Err(Refusal::Points {
             first: place(unused),
             second: place(unused),
         });
     }
-    Judged::Good
+    Ok(())
 }

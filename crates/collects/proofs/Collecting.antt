@@ -19,18 +19,17 @@ use Rattle.codes.specs.Sizes.{alpha, bytes}
 use Rattle.codes.specs.Rules.{Rules}
 use Rattle.codes.specs.Collect.{collected}
 use Rattle.codes.specs.declared.Code.{Code}
-use Rattle.codes.specs.declared.Judged.{Judged}
-use Rattle.codes.specs.declared.Judged.TheVariants.{Good, Refused}
+use Rattle.std.specs.Prelude.{Result, Ok, Err}
 use Rattle.codes.specs.declared.Refusal.{Refusal}
 use Rattle.codes.proofs.Bools.{and_left, and_right}
 use Rattle.stripes.specs.Lists.{every, repeats, differ, within}
 use Rattle.collects.specs.Collect.{collect_reasons, collect_told, collect_leaves}
 use Rattle.rebuilds.proofs.Answers.{ladder, ladder-numbered, ladder-good, refused-told, refused-leaves, done-told, done-leaves}
 
-pub good-is : {j : Judged} {t : Told} → j ≡ Good → say_judged j ≡ t → done 0 ≡ t
+pub good-is : {A : Type 0} {j : Result A Refusal} {x : A} {t : Told} → j ≡ Ok x → say_judged j ≡ t → done 0 ≡ t
 good-is g e = sym (ap say_judged g) ∙ e
 
-pub refused-from : {j : Judged} {r : Refusal} {t : Told} → j ≡ Refused r → say_judged j ≡ t → refused r ≡ t
+pub refused-from : {A : Type 0} {j : Result A Refusal} {r : Refusal} {t : Told} → j ≡ Err r → say_judged j ≡ t → refused r ≡ t
 refused-from g e = sym (ap say_judged g) ∙ e
 
 abbrev pub Whole : Code → List ℕ → List ℕ → List ℕ → ℕ → Bool

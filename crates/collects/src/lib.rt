@@ -5,8 +5,7 @@ ghost use Rattle.std.specs.Prelude.{◌≡◌};
 ghost use Rattle.rebuilds.specs.Rebuild.{say_counted};
 ghost use Rattle.collects.specs.Collect.{collect_told, collect_leaves};
 
-use codes::{Code, Judged};
-use rebuilds::Counted;
+use codes::{Code, Refusal};
 
 mod gather; // gather.rt: the matrix gathered, and the message read off it
 mod mbr; // mbr.rt: kind 1, T and then S
@@ -22,15 +21,12 @@ pub fn collect(
     counts: &[u32],
     shares: &[u8],
     output: &mut [u8],
-) -> Counted
+) -> Result<u32, Refusal>
     ensures answer { say_counted result ≡ collect_told code nodes.now counts.now shares.now output.old }
     ensures written { output.new ≡ collect_leaves code nodes.now counts.now shares.now output.old }
 {
-    let judged = sources::judge_collect(code, nodes, counts, shares, output.len());
-    if let Judged::Refused(r) = judged {
-        return Counted::Refused(r);
-    }
+    sources::judge_collect(code, nodes, counts, shares, output.len())?;
     gather::gather(code, nodes, shares, output);
     let count = counts[0];
-    Counted::Done(count)
+    Ok(count)
 }

@@ -6,7 +6,7 @@ ghost use Rattle.codes.specs.Sizes.{alpha, bytes};
 ghost use Rattle.codes.specs.Rules.{Rules};
 ghost use Rattle.collects.specs.Collect.{collect_reasons};
 
-use codes::{Code, Judged, Refusal};
+use codes::{Code, Refusal};
 use stripes::lists::{all_within, differ, repeats};
 
 // Whether there are k nodes, counts and shares, and the output has room for the message.
@@ -28,24 +28,21 @@ fn are_whole(code: Code, nodes: usize, counts: usize, shares: usize, room: usize
 }
 
 // The refusals of a collection into an output with room for so many bytes.
-pub fn judge_collect(code: Code, nodes: &[u8], counts: &[u32], shares: &[u8], room: usize) -> Judged
+pub fn judge_collect(code: Code, nodes: &[u8], counts: &[u32], shares: &[u8], room: usize) -> Result<(), Refusal>
     ensures { (o : List ℕ) → length o ≡ room → say_judged result ≡ answered (collect_reasons code nodes.now counts.now shares.now o) (pair_in code) 0 }
 {
-    let judged = codes::judge(code);
-    if let Judged::Refused(r) = judged {
-        return Judged::Refused(r);
-    }
+    codes::judge(code)?;
     if !are_whole(code, nodes.len(), counts.len(), shares.len(), room) {
-        return Judged::Refused(Refusal::Length);
+        return Err(Refusal::Length);
     }
     if !all_within(code, nodes) {
-        return Judged::Refused(Refusal::Node);
+        return Err(Refusal::Node);
     }
     if repeats(nodes) {
-        return Judged::Refused(Refusal::Repeat);
+        return Err(Refusal::Repeat);
     }
     if differ(counts) {
-        return Judged::Refused(Refusal::Mixed);
+        return Err(Refusal::Mixed);
     }
-    Judged::Good
+    Ok(())
 }

@@ -2,7 +2,7 @@
 --   shows       a record that shows one thing shows what equals it
 -- Assumes nothing.
 use mathlib.Core.Path.{◌≡◌, subst}
-use Rattle.records.specs.declared.reading.Read.{Read}
+use Rattle.records.specs.Reading.{Read}
 use Rattle.corkpaddle.specs.Reader.{Shows}
 use Rattle.corkpaddle.specs.declared.reader.Record.{Record}
 

@@ -5,25 +5,25 @@
 --   Shows r x           the record r, as it crosses, shows what was read, x, in each field
 -- Assumes nothing.
 use Rattle.std.specs.Prelude.{◌≡◌, ℕ}
-use Rattle.records.specs.declared.reading.Read.{Read}
-use Rattle.records.specs.declared.reading.Read.TheVariants.{Body, Refused}
+use Rattle.std.specs.Prelude.{Ok, Err}
+use Rattle.records.specs.Reading.{Read}
 use Rattle.corkpaddle.specs.declared.reader.Record.{Record}
 
 abbrev pub number_of : Read → ℕ
-number_of (Body start end next) = 0
-number_of (Refused place) = 1
+number_of (Ok f) = 0
+number_of (Err e) = 1
 
 abbrev pub start_of : Read → ℕ
-start_of (Body start end next) = start
-start_of (Refused place) = 0
+start_of (Ok f) = f.start
+start_of (Err e) = 0
 
 abbrev pub end_of : Read → ℕ
-end_of (Body start end next) = end
-end_of (Refused place) = 0
+end_of (Ok f) = f.end
+end_of (Err e) = 0
 
 abbrev pub next_of : Read → ℕ
-next_of (Body start end next) = next
-next_of (Refused place) = place
+next_of (Ok f) = f.next
+next_of (Err e) = e.place
 
 pub record Shows (r : Record) (x : Read) : Type 0 where
   pub number : r.number ≡ number_of x

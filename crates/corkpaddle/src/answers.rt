@@ -7,10 +7,8 @@ ghost use Rattle.shares.specs.File.{say_filed};
 ghost use Rattle.corkpaddle.specs.Boundary.{Says};
 
 use crate::Answer;
-use codes::{Judged, Refusal};
-use rebuilds::Counted;
+use codes::Refusal;
 use shares::Filed;
-use stripes::Encoded;
 
 pub fn refused(r: Refusal) -> Answer
     ensures { Says result (refused r) }
@@ -37,7 +35,7 @@ pub fn done(count: u32) -> Answer
 pub fn of_judged(answer: Judged) -> Answer
     ensures { Says result (say_judged answer) }
 {
-    if let Judged::Refused(r) = answer {
+    if let Err(r) = answer {
         return refused(r);
     }
     done(0)
@@ -46,7 +44,7 @@ pub fn of_judged(answer: Judged) -> Answer
 pub fn of_encoded(answer: Encoded) -> Answer
     ensures { Says result (say_encoded answer) }
 {
-    if let Encoded::Refused(r) = answer {
+    if let Err(r) = answer {
         return refused(r);
     }
     done(0)
@@ -56,10 +54,10 @@ pub fn of_counted(answer: Counted) -> Answer
     ensures { Says result (say_counted answer) }
 {
     match answer {
-        Counted::Refused(r) => {
+        Err(r) => {
             return refused(r);
         }
-        Counted::Done(count) => {
+        Ok(count) => {
             return done(count);
         }
     }
@@ -69,7 +67,7 @@ pub fn of_filed(answer: Filed) -> Answer
     ensures { Says result (say_filed answer) }
 {
     match answer {
-        Filed::Refused(fault) => {
+        Err(fault) => {
             return refused(fault);
         }
         Filed::Good {

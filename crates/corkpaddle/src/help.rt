@@ -5,8 +5,8 @@ ghost use Rattle.corkpaddle.specs.Help.{help_told, help_leaves};
 
 use crate::Answer;
 use crate::answers::{done, refused};
-use codes::{Code, Judged, Node, Refusal, judge};
-use stripes::{Helped, help};
+use codes::{Code, Node, Refusal, judge};
+use stripes::help;
 
 // The code is judged here too: the room is refused after the code, and before what only the proved function tests.
 pub fn help_into(code: Code, helper: Node, failed: Node, share: &[u8], output: &mut [u8]) -> Answer
@@ -14,7 +14,7 @@ pub fn help_into(code: Code, helper: Node, failed: Node, share: &[u8], output: &
     ensures written { output.new ≡ help_leaves code helper.0 failed.0 share.now output.old }
 {
     let verdict = judge(code);
-    if let Judged::Refused(r) = verdict {
+    if let Err(r) = verdict {
         return refused(r);
     }
     if output.len() != 1 {
@@ -22,10 +22,10 @@ pub fn help_into(code: Code, helper: Node, failed: Node, share: &[u8], output: &
     }
     let answer = help(code, helper, failed, share);
     match answer {
-        Helped::Refused(r) => {
+        Err(r) => {
             return refused(r);
         }
-        Helped::Done(s) => {
+        Ok(s) => {
             output[0] = s.0;
             return done(0);
         }

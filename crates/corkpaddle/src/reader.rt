@@ -2,7 +2,7 @@
 ghost use Rattle.records.specs.Reading.{read_at};
 ghost use Rattle.corkpaddle.specs.Reader.{Shows};
 
-use records::reading::{Read, read_at};
+use records::reading::read_at;
 
 // What was read, as it crosses: 0 and the places of a body; or refusal 1, no body, and the place that was asked.
 #[repr(C)]

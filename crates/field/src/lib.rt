@@ -8,11 +8,13 @@ mod antilogs; // antilogs.rt: the table of powers
 mod lent; // lent.rt: the product and the quotient by a table that the caller lends, for loops
 mod logs; // logs.rt: the table of logarithms
 mod product; // product.rt: the product, the quotient and powers
+mod products; // products.rt: the right table, which is made once and lent
 
 pub use lent::tables;
+pub use products::Products;
 
 // A byte that is a number of the field, and no other number.
-#[derive(Clone, Copy)]
+#[derive(Clone, Copy, PartialEq, Eq)]
 pub struct Symbol(pub u8);
 
 impl Symbol {

@@ -4,11 +4,10 @@ ghost use Rattle.rebuilds.specs.Rebuild.{rebuild_told, rebuild_leaves, say_count
 ghost use Rattle.triples.specs.Triples.{nodes_of, symbols_of, counts_of};
 
 use codes::{Code, Node};
-use rebuilds::Counted;
 use triples::{Helper, rebuild_from};
 
 // The rebuild from a list of these three.
-pub fn from_three(code: Code, failed: Node, helpers: [Helper; 3], output: &mut [u8]) -> Counted
+pub fn from_three(code: Code, failed: Node, helpers: [Helper; 3], output: &mut [u8]) -> Result<u32, Refusal>
     ensures answer { say_counted result ≡ rebuild_told code failed.0 (nodes_of helpers) (symbols_of helpers) (counts_of helpers) output.old }
     ensures written { output.new ≡ rebuild_leaves code failed.0 (nodes_of helpers) (symbols_of helpers) (counts_of helpers) output.old }
 {

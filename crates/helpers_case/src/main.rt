@@ -5,7 +5,6 @@
 use codes::{Code, Node};
 use field::Symbol;
 use lending::from_three;
-use rebuilds::Counted;
 use triples::Helper;
 
 mod lending; // lending.rt: three helpers, lent as a list
@@ -31,12 +30,12 @@ fn show(label: &[u8], code: Code, helpers: [Helper; 3]) {
     let mut share = [0u8; 3];
     let answer = from_three(code, Node(1), helpers, &mut share);
     match answer {
-        Counted::Done(count) => {
+        Ok(count) => {
             say(b": done");
             say_number(count as u64);
             say(b", share");
         }
-        Counted::Refused(r) => {
+        Err(r) => {
             say(b": refused");
             say_byte(r.number());
             say(b", left");

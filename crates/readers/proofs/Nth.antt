@@ -16,12 +16,11 @@ use Prim.Native.Nat.{ℕ, zero, suc, ◌-◌, ◌<◌}
 use Rattle.std.specs.Borrow.{Bor}
 use native.Mathlib.Omega.{arith}
 use Rattle.records.specs.Choice.{pick}
-use Rattle.records.specs.Reading.{end_at, whole, answered, read_at, telling, told}
+use Rattle.records.specs.Reading.{Read, end_at, whole, answered, read_at, telling, told}
 use Rattle.records.proofs.Whole.{told-answered}
 use Rattle.readers.specs.Readers.{at_start, step_from, place_after, left_after, onward, nth_from, nth, told_from, told_nth}
 use Rattle.readers.specs.declared.Step.{Step}
-use Rattle.records.specs.declared.reading.Read.{Read}
-use Rattle.records.specs.declared.reading.Read.TheVariants.{Body, Refused}
+use Rattle.std.specs.Prelude.{Ok, Err}
 
 passed-by : (t : Bool) (n : ℕ) (file : List ℕ) (place : ℕ) → whole file place ≡ t
     → nth_from (left_after (answered t file place) (suc n)) file (place_after (answered t file place)) ≡ onward (answered t file place) (nth_from n file)
@@ -42,8 +41,8 @@ unfolding nth_from
 here left file place none = sym (ap (λ (k : ℕ). nth_from k file place) none)
 
 pub fewer : (answer : Read) (left : ℕ) → 0 < left → left_after answer left < left
-fewer (Body start end next) left h = omega arith
-fewer (Refused place) left h = h
+fewer (Ok f) left h = omega arith
+fewer (Err e) left h = h
 
 told-by : (t : Bool) (n : ℕ) (file : List ℕ) (place : ℕ) → ((at : ℕ) → told (nth_from n file at) ≡ told_from n file at)
     → told (onward (answered t file place) (nth_from n file)) ≡ pick t (told_from n file (end_at file place)) (telling 1 0 0 (place ∷ []))

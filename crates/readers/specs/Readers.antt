@@ -10,12 +10,10 @@
 --     nth file n               the same from the file's start
 --     told_from, told_nth        what nth_from and nth are to tell
 --     left_after answer left    how many records are still to be passed: one less, or none after a refusal
-use Rattle.std.specs.Prelude.{List, [], ◌∷◌, ℕ, zero, suc, ◌-◌}
+use Rattle.std.specs.Prelude.{List, [], ◌∷◌, ℕ, zero, suc, ◌-◌, Ok, Err}
 use Rattle.std.specs.Borrow.{Bor}
 use Rattle.records.specs.Choice.{pick}
-use Rattle.records.specs.Reading.{end_at, whole, read_at, Told, telling, told_at}
-use Rattle.records.specs.declared.reading.Read.{Read}
-use Rattle.records.specs.declared.reading.Read.TheVariants.{Body, Refused}
+use Rattle.records.specs.Reading.{Read, end_at, whole, read_at, Told, telling, told_at}
 use Rattle.readers.specs.declared.Reader.{Reader}
 use Rattle.readers.specs.declared.Step.{Step}
 
@@ -29,15 +27,15 @@ abbrev pub answer_of : Reader → Read
 answer_of reader = read_at reader.file.now reader.place
 
 abbrev pub place_after : Read → ℕ
-place_after (Body start end next) = next
-place_after (Refused place) = place
+place_after (Ok f) = f.next
+place_after (Err e) = e.place
 
 abbrev pub step_from : Reader → Step
 step_from reader = record { answer = answer_of reader; reader = moved_to reader (place_after (answer_of reader)) }
 
 abbrev pub onward : Read → (ℕ → Read) → Read
-onward (Body start end next) go = go next
-onward (Refused place) go = Refused place
+onward (Ok f) go = go f.next
+onward (Err e) go = Err e
 
 unfoldable pub nth_from : ℕ → List ℕ → ℕ → Read
 nth_from zero file place = read_at file place
@@ -54,5 +52,5 @@ abbrev pub told_nth : List ℕ → ℕ → Told
 told_nth file n = told_from n file 0
 
 abbrev pub left_after : Read → ℕ → ℕ
-left_after (Body start end next) left = left - 1
-left_after (Refused place) left = 0
+left_after (Ok f) left = left - 1
+left_after (Err e) left = 0

@@ -11,7 +11,7 @@ ghost use Rattle.records.specs.Reading.{told, told_at};
 ghost use Rattle.readers.specs.Readers.{at_start, step_from, nth, told_nth};
 
 use crate::onward::{left_after, place_after};
-use records::reading::{Read, read_at};
+use records::reading::{Found, NoRecord, read_at};
 
 #[derive(Clone, Copy)]
 pub struct Reader<'a> {
@@ -22,7 +22,7 @@ pub struct Reader<'a> {
 // What reading one record gives: the answer, and the reader where it stands then.
 #[derive(Clone, Copy)]
 pub struct Step<'a> {
-    pub answer: Read,
+    pub answer: Result<Found, NoRecord>,
     pub reader: Reader<'a>,
 }
 
@@ -49,7 +49,7 @@ pub fn next<'a>(reader: Reader<'a>) -> Step<'a>
 }
 
 // The record before which n others stand, or the first refusal on the way to it.
-pub fn read_nth(file: &[u8], n: usize) -> Read
+pub fn read_nth(file: &[u8], n: usize) -> Result<Found, NoRecord>
     ensures { (result ≡ nth file.now n) × (told result ≡ told_nth file.now n) }
 {
     let mut step = next(open(file));

@@ -2,34 +2,25 @@
 ghost use Rattle.std.specs.Prelude.{◌≡◌};
 ghost use Rattle.readers.specs.Readers.{place_after, left_after};
 
-use records::reading::Read;
+use records::reading::{Found, NoRecord};
 
 // The place: the next one, or the same after a refusal.
-pub fn place_after(answer: Read) -> usize
+pub fn place_after(answer: Result<Found, NoRecord>) -> usize
     ensures { result ≡ place_after answer }
 {
     match answer {
-        Read::Body {
-            start: _,
-            end: _,
-            next,
-        } => next,
-        Read::Refused { place } => place,
+        Ok(found) => found.next,
+        Err(refusal) => refusal.place,
     }
 }
 
 // How many records are still to be passed: one less, or none after a refusal.
-pub fn left_after(answer: Read, left: usize) -> usize
+pub fn left_after(answer: Result<Found, NoRecord>, left: usize) -> usize
     ensures { result ≡ left_after answer left }
 {
-    let Read::Body {
-        start: _,
-        end: _,
-        next: _,
-    } = answer
-    else {
+    if answer.is_err() {
         return 0;
-    };
+    }
     if left == 0 {
         return 0;
     }

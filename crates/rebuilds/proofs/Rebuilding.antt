@@ -16,8 +16,7 @@ use Rattle.codes.specs.Sizes.{alpha}
 use Rattle.codes.specs.Rules.{Rules}
 use Rattle.codes.specs.Rebuild.{rebuilt}
 use Rattle.codes.specs.declared.Code.{Code}
-use Rattle.codes.specs.declared.Judged.{Judged}
-use Rattle.codes.specs.declared.Judged.TheVariants.{Good, Refused}
+use Rattle.std.specs.Prelude.{Result, Ok, Err}
 use Rattle.codes.specs.declared.Refusal.{Refusal}
 use Rattle.codes.specs.declared.Refusal.TheVariants.{Length, Node, Repeat, Mixed}
 use Rattle.codes.proofs.Bools.{and_left, and_right}
@@ -37,7 +36,7 @@ Known c f hs = within c f && every (within c) hs
 abbrev pub Twice : ℕ → List ℕ → Bool
 Twice f hs = has f hs || repeats hs
 
-pub good-is : {j : Judged} {t : Told} → j ≡ Good → say_judged j ≡ t → done 0 ≡ t
+pub good-is : {A : Type 0} {j : Result A Refusal} {x : A} {t : Told} → j ≡ Ok x → say_judged j ≡ t → done 0 ≡ t
 good-is g e = sym (ap say_judged g) ∙ e
 
 module _ (c : Code) (f : ℕ) (hs ys ns : List ℕ) (room : ℕ) where
@@ -49,8 +48,8 @@ module _ (c : Code) (f : ℕ) (hs ys ns : List ℕ) (room : ℕ) where
   tested e o l =
       e ∙ ap (λ (n : ℕ). answered (ladder c (Long c hs ys ns n) (Known c f hs) (Twice f hs) (differ ns)) (pair_in c) 0) (sym l)
 
-  pub stops-judge : {j : Judged} {r : Refusal} → j ≡ Refused r → say_judged j ≡ judged c → Tested (refused r)
-  stops-judge {j} {r} g e =
+  pub stops-judge : {A : Type 0} {j : Result A Refusal} {r : Refusal} → j ≡ Err r → say_judged j ≡ judged c → Tested (refused r)
+  stops-judge {A} {j} {r} g e =
       tested (by-judge c (Long c hs ys ns room) (Known c f hs) (Twice f hs) (differ ns) r (sym (ap say_judged g) ∙ e))
 
   module _ (good : done 0 ≡ judged c) where
@@ -75,7 +74,7 @@ module _ (c : Code) (f : ℕ) (hs ys ns : List ℕ) (room : ℕ) where
 -- ---- from the tests to the rebuild
 
 module _ (c : Code) (f : ℕ) (hs ys ns o : List ℕ) where
-  module _ {j : Judged} {r : Refusal} (g : j ≡ Refused r) (e : say_judged j ≡ answered (rebuild_reasons c f hs ys ns o) (pair_in c) 0) where
+  module _ {A : Type 0} {j : Result A Refusal} {r : Refusal} (g : j ≡ Err r) (e : say_judged j ≡ answered (rebuild_reasons c f hs ys ns o) (pair_in c) 0) where
     pub refused-is : refused r ≡ rebuild_told c f hs ys ns o
     unfolding rebuild_told
     refused-is = refused-told (rebuild_reasons c f hs ys ns o) (pair_in c) r (sym (ap say_judged g) ∙ e) (get_or ns 0 0)

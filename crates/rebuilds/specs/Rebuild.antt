@@ -4,15 +4,14 @@
 --   rebuild_told                      what is told: the helpers' count;   rebuild_leaves   what stands in the output then
 --   say_counted                       what the answer of a rebuild or a collection says
 -- Assumes nothing.
-use Rattle.std.specs.Prelude.{not, ◌&&◌, ◌||◌, cond, List, [], ◌∷◌, ◌++◌, ℕ, eqb, length, get_or}
-use Rattle.codes.specs.Told.{Told, Reason, ◌when◌, refused, done, refusal, answered}
+use Rattle.std.specs.Prelude.{not, ◌&&◌, ◌||◌, cond, List, [], ◌∷◌, ◌++◌, ℕ, eqb, length, get_or, Result}
+use Rattle.codes.specs.Told.{Told, Reason, ◌when◌, say, refusal, answered}
 use Rattle.codes.specs.Judge.{judge_reasons, pair_in}
 use Rattle.codes.specs.Sizes.{alpha}
 use Rattle.codes.specs.Rebuild.{rebuilt}
 use Rattle.codes.specs.declared.Code.{Code}
+use Rattle.codes.specs.declared.Refusal.{Refusal}
 use Rattle.stripes.specs.Lists.{every, has, repeats, differ, within}
-use Rattle.rebuilds.specs.declared.Counted.{Counted}
-use Rattle.rebuilds.specs.declared.Counted.TheVariants.{Done, Refused}
 
 unfoldable pub rebuild_reasons : Code → ℕ → List ℕ → List ℕ → List ℕ → List ℕ → List Reason
 rebuild_reasons c f hs ys ns o =
@@ -29,6 +28,5 @@ rebuild_told c f hs ys ns o = answered (rebuild_reasons c f hs ys ns o) (pair_in
 unfoldable pub rebuild_leaves : Code → ℕ → List ℕ → List ℕ → List ℕ → List ℕ → List ℕ
 rebuild_leaves c f hs ys ns o = cond (eqb (refusal (rebuild_reasons c f hs ys ns o)) 0) (rebuilt c f hs ys) o
 
-abbrev pub say_counted : Counted → Told
-say_counted (Done n) = done n
-say_counted (Refused r) = refused r
+abbrev pub say_counted : Result ℕ Refusal → Told
+say_counted r = say (λ n. n) r

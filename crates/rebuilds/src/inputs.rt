@@ -6,7 +6,7 @@ ghost use Rattle.codes.specs.Sizes.{alpha};
 ghost use Rattle.stripes.specs.Lists.{every, has, repeats, within};
 ghost use Rattle.rebuilds.specs.Rebuild.{rebuild_reasons};
 
-use codes::{Code, Judged, Refusal};
+use codes::{Code, Refusal};
 use stripes::lists::{all_within, differ, has, is_within, repeats};
 
 // Whether each list has d entries, and the output has room for alpha.
@@ -54,24 +54,21 @@ pub fn judge_rebuild(
     symbols: &[u8],
     counts: &[u32],
     room: usize,
-) -> Judged
+) -> Result<(), Refusal>
     ensures { (o : List ℕ) → length o ≡ room → say_judged result ≡ answered (rebuild_reasons code failed nodes.now symbols.now counts.now o) (pair_in code) 0 }
 {
-    let judged = codes::judge(code);
-    if let Judged::Refused(r) = judged {
-        return Judged::Refused(r);
-    }
+    codes::judge(code)?;
     if !are_long(code, nodes.len(), symbols.len(), counts.len(), room) {
-        return Judged::Refused(Refusal::Length);
+        return Err(Refusal::Length);
     }
     if !are_nodes(code, failed, nodes) {
-        return Judged::Refused(Refusal::Node);
+        return Err(Refusal::Node);
     }
     if are_repeated(failed, nodes) {
-        return Judged::Refused(Refusal::Repeat);
+        return Err(Refusal::Repeat);
     }
     if differ(counts) {
-        return Judged::Refused(Refusal::Mixed);
+        return Err(Refusal::Mixed);
     }
-    Judged::Good
+    Ok(())
 }

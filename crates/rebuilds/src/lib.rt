@@ -5,18 +5,11 @@ ghost use Rattle.std.specs.Prelude.{◌≡◌};
 ghost use Rattle.rebuilds.specs.Plan.{plan_of, applied};
 ghost use Rattle.rebuilds.specs.Rebuild.{rebuild_told, rebuild_leaves, say_counted};
 
-use codes::{Code, Judged, Node, Refusal};
+use codes::{Code, Node, Refusal};
 
 mod inputs; // inputs.rt: the tests of a rebuild's inputs
 pub mod points; // points.rt: the points of a list of nodes
 mod weigh; // weigh.rt: the weights of a plan
-
-// What a rebuild or a collection answers: the count of the helpers or of the shares.
-#[derive(Clone, Copy)]
-pub enum Counted {
-    Done(u32),
-    Refused(Refusal),
-}
 
 // The weight of each helper's symbol (the row) in each byte of the rebuilt share (the column).
 pub type Plan = [[u8; 31]; 31];
@@ -59,17 +52,14 @@ pub fn rebuild(
     symbols: &[u8],
     counts: &[u32],
     output: &mut [u8],
-) -> Counted
+) -> Result<u32, Refusal>
     ensures answer { say_counted result ≡ rebuild_told code failed.0 nodes.now symbols.now counts.now output.old }
     ensures written { output.new ≡ rebuild_leaves code failed.0 nodes.now symbols.now counts.now output.old }
 {
-    let judged = inputs::judge_rebuild(code, failed.0, nodes, symbols, counts, output.len());
-    if let Judged::Refused(r) = judged {
-        return Counted::Refused(r);
-    }
+    inputs::judge_rebuild(code, failed.0, nodes, symbols, counts, output.len())?;
     let p = plan(code, failed, nodes);
     let t = field::tables();
     rebuild_by(&p, &t, symbols, output);
     let count = counts[0];
-    Counted::Done(count)
+    Ok(count)
 }

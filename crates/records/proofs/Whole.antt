@@ -17,11 +17,11 @@ use native.Mathlib.Omega.{arith}
 use borrow.Author.Tests.{lt-ltb, le-ltb, le-leb, lt-leb, eq-eqb, ne_eqb, ltb-true, leb-true, eqb-true, eqb-false, not-true}
 use lib.Dec.{leb, ltb, eqb}
 use lib.ListN.{length, get_or}
+use Rattle.std.specs.Prelude.{Ok, Err}
 use Rattle.records.specs.Demand.{Inside}
 use Rattle.records.specs.Kinds.{body_of}
-use Rattle.records.specs.Reading.{end_at, whole, whole_as, answered, read_at, read_as, told, told_by}
-use Rattle.records.specs.declared.reading.Read.{Read}
-use Rattle.records.specs.declared.reading.Read.TheVariants.{Body, Refused}
+use Rattle.records.specs.Reading.{Read, found, no_record, end_at, whole, whole_as, answered, read_at, read_as, told, told_by}
+use Rattle.records.specs.declared.reading.Found.{Found}
 use Rattle.records.proofs.Flags.{both}
 
 module _ (file : List ℕ) (place : ℕ) where
@@ -58,22 +58,30 @@ module _ (file : List ℕ) (place : ℕ) where
   settled r t w e h =
       (e ∙ ap (λ (b : Bool). answered b file place) (sym h), ap told e ∙ told-answered t ∙ ap (λ (b : Bool). told_by b file place) (sym h))
 
-  pub body-holds : (t : Bool) (start end next : ℕ) → answered t file place ≡ Body start end next
-      → (t ≡ true) × (Body start end next ≡ answered true file place)
+  pub body-holds : (t : Bool) (start end next : ℕ) → answered t file place ≡ found start end next
+      → (t ≡ true) × (found start end next ≡ answered true file place)
   body-holds true start end next e = (refl, sym e)
   body-holds false start end next e = let z : ◌≡◌ {A = ℕ} 0 1 = cc in absurd (omega arith)
 
-  pub handed-on : (t u : Bool) (p : ℕ) → answered t file place ≡ Refused p → answered (t && u) file place ≡ Refused p
+  pub handed-on : (t u : Bool) (p : ℕ) → answered t file place ≡ no_record p → answered (t && u) file place ≡ no_record p
   handed-on true u p e = let z : ◌≡◌ {A = ℕ} 0 1 = cc in absurd (omega arith)
   handed-on false u p e = e
 
-  pub read-inside : (start end next : ℕ) → read_at file place ≡ Body start end next → Inside file place start end next
+  abbrev part_of : Found → Read → Found
+  part_of d (Ok f) = f
+  part_of d (Err n) = d
+
+  same_parts : (a b : Found) → ◌≡◌ {A = Read} (Ok a) (Ok b) → a ≡ b
+  same_parts a b e = ap (part_of a) e
+
+  pub read-inside : (start end next : ℕ) → read_at file place ≡ found start end next → Inside file place start end next
   read-inside start end next e =
       let b = body-holds (whole file place) start end next e in
       let w = is_whole b.0 in
-      let s : start ≡ place + 1 = cc b.1 in
-      let l : end ≡ end_at file place = cc b.1 in
-      let n : next ≡ end_at file place = cc b.1 in
+      let p = same_parts _ _ b.1 in
+      let s : start ≡ place + 1 = ap (λ (f : Found). f.start) p in
+      let l : end ≡ end_at file place = ap (λ (f : Found). f.end) p in
+      let n : next ≡ end_at file place = ap (λ (f : Found). f.next) p in
       record { inside = w.0; start_is = s; end_is = omega (arith, s, l); next-is = omega (arith, l, n); known = w.1.0; fits = omega (arith, l, w.1.1) }
 
   pub other : (kind : ℕ) → (get_or file place 0 ≡ kind → ⊥) → whole_as file place kind ≡ false
@@ -83,18 +91,18 @@ module _ (file : List ℕ) (place : ℕ) where
   same kind w h = simp (eq-eqb _ _ h, and-true, w)
 
   pub reads_as : (kind : ℕ) → get_or file place 0 ≡ kind → (body_of kind ≡ 0 → ⊥) → place + 1 + body_of kind ≤ length file
-      → read_as file place kind ≡ Body (place + 1) (place + 1 + body_of kind) (place + 1 + body_of kind)
+      → read_as file place kind ≡ found (place + 1) (place + 1 + body_of kind) (place + 1 + body_of kind)
   reads_as kind e n h =
       let b : body_of (get_or file place 0) ≡ body_of kind = ap body_of e in
       let w : whole file place ≡ true = stands (omega arith) (λ z. n (sym b ∙ z)) (omega (arith, b)) in
-      ap (λ (t : Bool). answered t file place) (same kind w e) ∙ ap (λ (k : ℕ). Body (place + 1) (place + 1 + k) (place + 1 + k)) b
+      ap (λ (t : Bool). answered t file place) (same kind w e) ∙ ap (λ (k : ℕ). found (place + 1) (place + 1 + k) (place + 1 + k)) b
 
-  module _ (kind start end next : ℕ) (e : read_as file place kind ≡ Body start end next) where
+  module _ (kind start end next : ℕ) (e : read_as file place kind ≡ found start end next) where
     pub as-kind : get_or file place 0 ≡ kind
     as-kind =
         eqb-true _ _ (both (whole file place) (eqb (get_or file place 0) kind) (body-holds (whole_as file place kind) start end next e).0).1
 
-    pub as_read : read_at file place ≡ Body start end next
+    pub as_read : read_at file place ≡ found start end next
     as_read =
         let b = body-holds (whole_as file place kind) start end next e in
         ap (λ (t : Bool). answered t file place) (both (whole file place) (eqb (get_or file place 0) kind) b.0).0 ∙ sym b.1

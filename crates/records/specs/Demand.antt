@@ -9,8 +9,7 @@
 --     Inside file place s e n  what is so of a body from s to e with the next place n, read at the place
 use Rattle.std.specs.Prelude.{List, [], ◌∷◌, ◌⊎◌, ◌≡◌, ℕ, ◌+◌, ◌≤◌, ◌<◌, length, get_or}
 use Rattle.records.specs.Kinds.{Kind, kinds, body_of}
-use Rattle.records.specs.Reading.{telling, told, end_at}
-use Rattle.records.specs.declared.reading.Read.{Read}
+use Rattle.records.specs.Reading.{Read, telling, told, end_at}
 
 abbrev pub NoneOf : List Kind → ℕ → Type 0
 NoneOf [] byte = Unit

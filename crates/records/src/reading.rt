@@ -6,58 +6,56 @@ ghost use Rattle.records.specs.Reading.{read_at, read_as, told, told_at, told_as
 
 use crate::kinds::body_of;
 
-// A record's body, as a part of the file, and the next place; or the place where no record could be read.
-#[derive(Clone, Copy)]
-pub enum Read {
-    Body {
-        start: usize,
-        end: usize,
-        next: usize,
-    },
-    Refused {
-        place: usize,
-    },
+// A record's body, as a part of the file, and the next place.
+#[derive(Clone, Copy, PartialEq, Eq)]
+pub struct Found {
+    pub start: usize,
+    pub end: usize,
+    pub next: usize,
+}
+
+// The place where no record could be read: document 01's refusal 1.
+#[derive(Clone, Copy, PartialEq, Eq)]
+pub struct NoRecord {
+    pub place: usize,
 }
 
 // The record at a place, of whichever kind.
 #[tactic(auto, using(crate::proofs::Whole::past, crate::proofs::Whole::unknown, crate::proofs::Whole::cut, crate::proofs::Whole::stands))]
-pub fn read_at(file: &[u8], place: usize) -> Read
+pub fn read_at(file: &[u8], place: usize) -> Result<Found, NoRecord>
     ensures answer { result ≡ read_at file.now place }
     ensures told { told result ≡ told_at file.now place }
 {
     if place >= file.len() {
-        return Read::Refused { place };
+        return Err(NoRecord { place });
     }
     let length = body_of(file[place]);
     if length == 0 {
-        return Read::Refused { place };
+        return Err(NoRecord { place });
     }
     let start = place + 1;
     if length <= file.len() - start {
         let end = start + length;
-        Read::Body {
+        Ok(Found {
             start,
             end,
             next: end,
-        }
+        })
     } else {
-        Read::Refused { place }
+        Err(NoRecord { place })
     }
 }
 
 // The record at a place, where its kind is the one expected there.
-pub fn read_as(file: &[u8], place: usize, kind: u8) -> Read
+pub fn read_as(file: &[u8], place: usize, kind: u8) -> Result<Found, NoRecord>
     ensures answer { result ≡ read_as file.now place kind }
     ensures told { told result ≡ told_as file.now place kind }
 {
-    let first = read_at(file, place);
-    let Read::Body { start, end, next } = first else {
-        return first;
-    };
+    let found = read_at(file, place)?;
     if file[place] != kind {
-        return Read::Refused { place };
+        return Err(NoRecord { place });
     }
-    Read::Body { start, end, next }
+    Ok(found)
 }
 
 // A named body, as the file's own bytes: the empty part where there is no such part.

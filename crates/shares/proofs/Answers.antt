@@ -20,7 +20,7 @@ use Rattle.shares.specs.Fields.{code_in, node_in, stripes_in, count_in}
 use Rattle.shares.specs.File.{given, Says}
 use Rattle.shares.specs.Slip.{left_by}
 use Rattle.shares.specs.declared.Filed.{Filed}
-use Rattle.shares.specs.declared.Filed.TheVariants.{Good, Refused}
+use Rattle.std.specs.Prelude.{Result, Ok, Err}
 
 module _ (rs : List Reason) where
   pub nonzero : (r : Refusal) (p : ℕ × ℕ) (v : ℕ) → refused r ≡ answered rs p v → refusal rs ≢ 0
@@ -43,17 +43,18 @@ module _ (rs : List Reason) where
   left-done after before h = rw (eq-eqb (refusal rs) 0 (clear rs h))
 
   module _ (s : List ℕ) where
-    pub says-refused : (r : Refusal) → refused r ≡ answered rs (pair_in (code_in s)) (count_in s) → Says rs s (Refused r)
+    pub says-refused : (r : Refusal) → refused r ≡ answered rs (pair_in (code_in s)) (count_in s) → Says rs s (Err r)
     says-refused r e = let z = nonzero r _ _ e in record { answer = e; node = given-refused _ z; stripes = given-refused _ z }
 
-    pub says-good : (v t m : ℕ) → v ≡ node_in s → t ≡ stripes_in s → m ≡ count_in s → Clear rs → Says rs s (Good (record { 0 = v }) t m)
+    pub says-good : (v t m : ℕ) → v ≡ node_in s → t ≡ stripes_in s → m ≡ count_in s → Clear rs
+        → Says rs s (Ok (record { node = record { 0 = v }; stripes = t; count = m }))
     says-good v t m e f g h = record {
       answer = ap done g ∙ sym (clear-done rs (pair_in (code_in s)) (count_in s) h);
       node = e ∙ given-done _ h;
       stripes = f ∙ given-done _ h;
     }
 
-pub says-more : (front rs : List Reason) (s : List ℕ) (r : Filed) → Clear front → Says rs s r → Says (front ++ rs) s r
+pub says-more : (front rs : List Reason) (s : List ℕ) (r : Result Filed Refusal) → Clear front → Says rs s r → Says (front ++ rs) s r
 unfolding given
 says-more front rs s r h q =
     let e : refusal (front ++ rs) ≡ refusal rs = refusal-goes-on front rs h in

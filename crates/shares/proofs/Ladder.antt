@@ -21,7 +21,7 @@ use Rattle.stripes.specs.Lists.{within}
 use Rattle.shares.specs.Fields.{code_in, node_in, stripes_in, count_in, stripe_at}
 use Rattle.shares.specs.File.{below, stripe_good, totalled, node_reasons, file_reasons, Says}
 use Rattle.shares.specs.declared.Filed.{Filed}
-use Rattle.shares.specs.declared.Filed.TheVariants.{Refused}
+use Rattle.std.specs.Prelude.{Result, Ok, Err}
 use Rattle.shares.proofs.Answers.{says-refused, says-more}
 
 module _ (s : List ℕ) where
@@ -30,19 +30,19 @@ module _ (s : List ℕ) where
 
   -- ---- from the N record on
 
-  pub no_node : whole_as s 37 0x4E ≡ false → Says (node_reasons s) s (Refused Record)
+  pub no_node : whole_as s 37 0x4E ≡ false → Says (node_reasons s) s (Err Record)
   unfolding node_reasons
   no_node e = says-refused _ s Record (refused-first Record _ Pair (count_in s) (λ z. omega arith) (ap not e))
 
   module _ (e₁ : whole_as s 37 0x4E ≡ true) where
-    pub bad-total : totalled (stripes_in s) ≡ false → Says (node_reasons s) s (Refused Size)
+    pub bad-total : totalled (stripes_in s) ≡ false → Says (node_reasons s) s (Err Size)
     unfolding node_reasons
     bad-total e =
         says-refused _ s Size
         (refused-first Size _ Pair (count_in s) (λ z. omega arith) (ap not e) ∙ sym (answered-skip 1 _ Pair (count_in s) (ap not e₁)))
 
     module _ (e₂ : totalled (stripes_in s) ≡ true) where
-      pub bad-node : within (code_in s) (node_in s) ≡ false → Says (node_reasons s) s (Refused Node)
+      pub bad-node : within (code_in s) (node_in s) ≡ false → Says (node_reasons s) s (Err Node)
       unfolding node_reasons
       bad-node e =
           says-refused _ s Node
@@ -50,7 +50,7 @@ module _ (s : List ℕ) where
           ∙ sym (answered-skip 1 _ Pair (count_in s) (ap not e₁) ∙ answered-skip 3 _ Pair (count_in s) (ap not e₂)))
 
       module _ (e₃ : within (code_in s) (node_in s) ≡ true) where
-        pub bad-stripe : below (stripes_in s) (stripe_good (alpha (code_in s)) s) ≡ false → Says (node_reasons s) s (Refused Record)
+        pub bad-stripe : below (stripes_in s) (stripe_good (alpha (code_in s)) s) ≡ false → Says (node_reasons s) s (Err Record)
         unfolding node_reasons
         bad-stripe e =
             says-refused _ s Record
@@ -59,7 +59,7 @@ module _ (s : List ℕ) where
             ∙ answered-skip 6 _ Pair (count_in s) (ap not e₃)))
 
         module _ (e₄ : below (stripes_in s) (stripe_good (alpha (code_in s)) s) ≡ true) where
-          pub bad-end : (length s ≡ stripe_at (stripes_in s) → ⊥) → Says (node_reasons s) s (Refused Record)
+          pub bad-end : (length s ≡ stripe_at (stripes_in s) → ⊥) → Says (node_reasons s) s (Err Record)
           unfolding node_reasons
           bad-end n =
               says-refused _ s Record
@@ -80,19 +80,19 @@ module _ (s : List ℕ) where
 
   -- ---- the C record
 
-  pub no_code : whole_as s 0 0x43 ≡ false → Says (file_reasons s) s (Refused Record)
+  pub no_code : whole_as s 0 0x43 ≡ false → Says (file_reasons s) s (Err Record)
   unfolding file_reasons
   no_code e = says-refused _ s Record (refused-first Record _ Pair (count_in s) (λ z. omega arith) (ap not e))
 
   module _ (whole : whole_as s 0 0x43 ≡ true) (c : Code) (same : c ≡ code_in s) where
-    pub bad-code : (r : Refusal) → refused r ≡ judged c → Says (file_reasons s) s (Refused r)
+    pub bad-code : (r : Refusal) → refused r ≡ judged c → Says (file_reasons s) s (Err r)
     unfolding file_reasons judged
     bad-code r e =
         says-refused _ s r
         (answered-hand-on r (judge_reasons (code_in s)) (node_reasons s) Pair 0 (count_in s) (e ∙ ap judged same)
         ∙ sym (answered-skip 1 _ Pair (count_in s) (ap not whole)))
 
-    pub good-code : done 0 ≡ judged c → (r : Filed) → Says (node_reasons s) s r → Says (file_reasons s) s r
+    pub good-code : done 0 ≡ judged c → (r : Result Filed Refusal) → Says (node_reasons s) s r → Says (file_reasons s) s r
     unfolding file_reasons judged
     good-code e r q =
         says-more ((1 when not (whole_as s 0 0x43)) ∷ judge_reasons (code_in s)) (node_reasons s) s r

@@ -13,8 +13,7 @@ use borrow.Author.Tests.{lt-ltb, le-ltb, eq-eqb, ne_eqb}
 use lib.ListN.{length, get_or}
 use Rattle.records.specs.Kinds.{body_of}
 use Rattle.records.specs.Numbers.{number_at}
-use Rattle.records.specs.Reading.{whole_as, answered, read_as}
-use Rattle.records.specs.declared.reading.Read.TheVariants.{Body, Refused}
+use Rattle.records.specs.Reading.{found, no_record, whole_as, answered, read_as}
 use Rattle.records.proofs.Whole.{body-holds, as-kind, as_read, read-inside}
 use Rattle.shares.specs.Fields.{stripe_at}
 use Rattle.shares.specs.File.{below, zero_past, spare, stripe_good}
@@ -23,14 +22,14 @@ use Rattle.shares.proofs.Below.{below_each, below_next, below-stop, below-fewer}
 -- ---- what was read
 
 module _ (s : List ℕ) (place : ℕ) where
-  refused-by : (t : Bool) (p : ℕ) → answered t s place ≡ Refused p → t ≡ false
+  refused-by : (t : Bool) (p : ℕ) → answered t s place ≡ no_record p → t ≡ false
   refused-by true p e = let z : ◌≡◌ {A = ℕ} 0 1 = cc in absurd (omega arith)
   refused-by false p e = refl
 
-  pub not-read : (kind p : ℕ) → read_as s place kind ≡ Refused p → whole_as s place kind ≡ false
+  pub not-read : (kind p : ℕ) → read_as s place kind ≡ no_record p → whole_as s place kind ≡ false
   not-read kind p e = refused-by (whole_as s place kind) p e
 
-  module _ (kind start end next : ℕ) (e : read_as s place kind ≡ Body start end next) where
+  module _ (kind start end next : ℕ) (e : read_as s place kind ≡ found start end next) where
     pub is_read : whole_as s place kind ≡ true
     is_read = (body-holds s place (whole_as s place kind) start end next e).0
 
@@ -43,7 +42,7 @@ module _ (s : List ℕ) (place : ℕ) where
         omega (arith, i.end_is, i.fits, ap body_of (as-kind s place kind start end next e))
 
 -- the body of a D record
-pub stripe-room : (s : List ℕ) (place start end next : ℕ) → read_as s place 0x44 ≡ Body start end next → start + 33 ≤ length s
+pub stripe-room : (s : List ℕ) (place start end next : ℕ) → read_as s place 0x44 ≡ found start end next → start + 33 ≤ length s
 unfolding body_of
 stripe-room s place start end next e = read-room s place 0x44 start end next e
 
@@ -84,11 +83,11 @@ module _ (a : ℕ) (s : List ℕ) (i place : ℕ) (e : place ≡ stripe_at i) wh
   here : whole_as s place 0x44 ≡ whole_as s (stripe_at i) 0x44
   here = ap (λ (n : ℕ). whole_as s n 0x44) e
 
-  pub stripe-none : (p : ℕ) → read_as s place 0x44 ≡ Refused p → false ≡ stripe_good a s i
+  pub stripe-none : (p : ℕ) → read_as s place 0x44 ≡ no_record p → false ≡ stripe_good a s i
   unfolding stripe_good
   stripe-none p f = first_out (whole_as s (stripe_at i) 0x44) _ _ (sym here ∙ not-read s place 0x44 p f)
 
-  module _ (start end next n : ℕ) (f : read_as s place 0x44 ≡ Body start end next) (g : n ≡ number_at 2 s start) where
+  module _ (start end next n : ℕ) (f : read_as s place 0x44 ≡ found start end next) (g : n ≡ number_at 2 s start) where
     at-start : start ≡ stripe_at i + 1
     at-start = read-start s place 0x44 start end next f ∙ ap (λ (k : ℕ). k + 1) e
 

@@ -11,16 +11,16 @@
 --   given rs v            the value v where no reason of rs holds, else 0
 --   Says rs s r           the answer r says what the reasons rs and the file s give
 -- Assumes nothing.
-use Rattle.std.specs.Prelude.{◌≡◌, Bool, true, not, ◌&&◌, ◌||◌, cond, List, [], ◌∷◌, ◌++◌, ℕ, zero, suc, ◌+◌, eqb, leb, ltb, length, get_or}
+use Rattle.std.specs.Prelude.{◌≡◌, Bool, true, not, ◌&&◌, ◌||◌, cond, List, [], ◌∷◌, ◌++◌, ℕ, zero, suc, ◌+◌, eqb, leb, ltb, length, get_or, Result, Ok, Err}
 use Rattle.records.specs.Numbers.{number_at}
 use Rattle.records.specs.Reading.{whole_as}
-use Rattle.codes.specs.Told.{Told, Reason, ◌when◌, refused, done, refusal, answered}
+use Rattle.codes.specs.Told.{Told, Reason, ◌when◌, say, refusal, answered}
 use Rattle.codes.specs.Judge.{judge_reasons, pair_in}
 use Rattle.codes.specs.Sizes.{alpha}
 use Rattle.stripes.specs.Lists.{within}
 use Rattle.shares.specs.Fields.{code_in, node_in, stripes_in, count_in, stripe_at}
 use Rattle.shares.specs.declared.Filed.{Filed}
-use Rattle.shares.specs.declared.Filed.TheVariants.{Good, Refused}
+use Rattle.codes.specs.declared.Refusal.{Refusal}
 
 unfoldable pub below : ℕ → (ℕ → Bool) → Bool
 below zero p = true
@@ -52,22 +52,21 @@ file_reasons s = (1 when not (whole_as s 0 0x43)) ∷ (judge_reasons (code_in s)
 unfoldable pub file_told : List ℕ → Told
 file_told s = answered (file_reasons s) (pair_in (code_in s)) (count_in s)
 
-abbrev pub say_filed : Filed → Told
-say_filed (Good v t m) = done m
-say_filed (Refused r) = refused r
+abbrev pub say_filed : Result Filed Refusal → Told
+say_filed r = say (λ (f : Filed). f.count) r
 
-abbrev pub node_told : Filed → ℕ
-node_told (Good v t m) = v.0
-node_told (Refused r) = 0
+abbrev pub node_told : Result Filed Refusal → ℕ
+node_told (Ok f) = f.node.0
+node_told (Err r) = 0
 
-abbrev pub stripes_told : Filed → ℕ
-stripes_told (Good v t m) = t
-stripes_told (Refused r) = 0
+abbrev pub stripes_told : Result Filed Refusal → ℕ
+stripes_told (Ok f) = f.stripes
+stripes_told (Err r) = 0
 
 unfoldable pub given : List Reason → ℕ → ℕ
 given rs v = cond (eqb (refusal rs) 0) v 0
 
-pub record Says (rs : List Reason) (s : List ℕ) (r : Filed) : Type 0 where
+pub record Says (rs : List Reason) (s : List ℕ) (r : Result Filed Refusal) : Type 0 where
   pub answer : say_filed r ≡ answered rs (pair_in (code_in s)) (count_in s)
   pub node : node_told r ≡ given rs (node_in s)
   pub stripes : stripes_told r ≡ given rs (stripes_in s)

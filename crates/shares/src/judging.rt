@@ -1,16 +1,16 @@
 // Judging a share file: record by record, the first faulty one decides.
 ghost use Rattle.std.specs.Prelude.{◌≡◌, ◌+◌, ◌≤◌, length};
-ghost use Rattle.stripes.specs.Lists.{within};
 ghost use Rattle.shares.specs.Fields.{code_in};
 ghost use Rattle.shares.specs.File.{below, spare, stripe_good, node_reasons, file_reasons, Says};
 
 use crate::Filed;
 use crate::places::{COUNT, TOTAL, byte_at, stripe_at};
 use crate::totals::is_total;
-use codes::{Code, Judged, Node, Refusal, code_at, judge};
+use codes::{Code, Node, Refusal, code_at, judge};
 use records::kinds::{CODE, NODE, STRIPE};
 use records::numbers::{number2, number4};
-use records::reading::{Read, read_as};
+use records::reading::{Found, read_as};
+use stripes::lists::is_within;
 
 // The code that the C record of a file says.
 pub fn code_in(file: &[u8]) -> Code
@@ -38,13 +38,7 @@ fn is_spare(file: &[u8], at: usize, a: usize) -> bool
 fn is_stripe(file: &[u8], i: u16, a: usize) -> bool
     ensures { result ≡ stripe_good a file.now i }
 {
-    let found = read_as(file, stripe_at(i), STRIPE);
-    let Read::Body {
-        start,
-        end: _,
-        next: _,
-    } = found
-    else {
+    let Ok(Found { start, .. }) = read_as(file, stripe_at(i), STRIPE) else {
         return false;
     };
     if number2(file, start) != i {
@@ -67,68 +61,43 @@ fn are_stripes(file: &[u8], total: u16, a: usize) -> bool
     true
 }
 
-// Whether v is a node of the code.
-pub fn is_node(code: Code, v: u8) -> bool
-    ensures { result ≡ within code v }
-{
-    if v < 1 {
-        return false;
-    }
-    v <= code.n
-}
-
 // What the N record, and what follows it, say of a file whose C record holds the code.
-fn judge_rest(file: &[u8], code: Code) -> Filed
+fn judge_rest(file: &[u8], code: Code) -> Result<Filed, Refusal>
     requires { code ≡ code_in file.now }
     ensures { Says (node_reasons file.now) file.now result }
 {
-    let found = read_as(file, 37, NODE);
-    let Read::Body {
-        start,
-        end: _,
-        next: _,
-    } = found
-    else {
-        return Filed::Refused(Refusal::Record);
+    let Ok(Found { start, .. }) = read_as(file, 37, NODE) else {
+        return Err(Refusal::Record);
     };
     let node = byte_at(file, start);
     let total = number2(file, TOTAL);
     if !is_total(total as u32) {
-        return Filed::Refused(Refusal::Size);
+        return Err(Refusal::Size);
     }
-    if !is_node(code, node) {
-        return Filed::Refused(Refusal::Node);
+    if !is_within(code, node) {
+        return Err(Refusal::Node);
     }
     if !are_stripes(file, total, code.alpha()) {
-        return Filed::Refused(Refusal::Record);
+        return Err(Refusal::Record);
     }
     if file.len() != stripe_at(total) {
-        return Filed::Refused(Refusal::Record);
+        return Err(Refusal::Record);
     }
-    Filed::Good {
+    Ok(Filed {
         node: Node(node),
         stripes: total,
         count: number4(file, COUNT),
-    }
+    })
 }
 
 // The judge of share files.
-pub fn judge_file(file: &[u8]) -> Filed
+pub fn judge_file(file: &[u8]) -> Result<Filed, Refusal>
     ensures { Says (file_reasons file.now) file.now result }
 {
-    let found = read_as(file, 0, CODE);
-    let Read::Body {
-        start: _,
-        end: _,
-        next: _,
-    } = found
-    else {
-        return Filed::Refused(Refusal::Record);
-    };
-    let code = code_in(file);
-    let judged = judge(code);
-    if let Judged::Refused(r) = judged {
-        return Filed::Refused(r);
+    if read_as(file, 0, CODE).is_err() {
+        return Err(Refusal::Record);
     }
+    let code = code_in(file);
+    judge(code)?;
     judge_rest(file, code)
 }

@@ -5,7 +5,7 @@ ghost use Rattle.shares.specs.File.{file_told};
 ghost use Rattle.streams.specs.Length.{file_length};
 
 use records::numbers::number2;
-use shares::{Filed, judge_file, stripe_at};
+use shares::{judge_file, stripe_at};
 
 // The length of the share file that begins with these bytes.
 pub fn file_length(head: &[u8]) -> usize
@@ -28,10 +28,8 @@ pub fn file_length(head: &[u8]) -> usize
 pub fn refusal_of(file: &[u8]) -> u8
     ensures { result ≡ (file_told file.now).number }
 {
-    let judged = judge_file(file);
-    if let Filed::Refused(r) = judged {
-        let number = r.number();
-        return number;
+    match judge_file(file) {
+        Ok(_) => 0,
+        Err(r) => r.number(),
     }
-    0
 }

@@ -5,7 +5,9 @@
 
 mod heads; // heads.rt: how long a share file is, and whether it is refused
 mod runs; // runs.rt: a run of slip records, taken one after the other
+mod slips; // slips.rt: one slip taken in a file, which is judged first
 mod taking; // taking.rt: one slip, with what a run has in common made once
 
 pub use heads::{file_length, refusal_of};
 pub use runs::{Walked, take_run};
+pub use slips::take_slip;

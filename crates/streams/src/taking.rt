@@ -15,7 +15,7 @@ ghost use Rattle.shares.specs.Fields.{code_in, part};
 ghost use Rattle.shares.specs.Slip.{slip_faults, judged_told, judged_leaves, taken_in};
 ghost use Rattle.streams.specs.Ready.{Powers, Ready};
 
-use codes::{Code, Judged, Refusal};
+use codes::{Code, Refusal};
 use field::Symbol;
 use records::kinds::SLIP;
 use records::numbers::{bytes4, number2, number4};
@@ -101,31 +101,31 @@ fn move_share(
 }
 
 // The slip's own faults. The count's last number has no next one.
-fn judge_by(file: &[u8], slip: &[u8], size: usize) -> Judged
+fn judge_by(file: &[u8], slip: &[u8], size: usize) -> Result<(), Refusal>
     requires { size ≡ bytes (code_in file.now) }
     ensures { say_judged result ≡ answered (slip_faults file.now slip.now) (pair_in (code_in file.now)) 0 }
 {
     if slip.len() != 10 {
-        return Judged::Refused(Refusal::Record);
+        return Err(Refusal::Record);
     }
     if slip[0] != SLIP {
-        return Judged::Refused(Refusal::Record);
+        return Err(Refusal::Record);
     }
     let count = number4(file, 41);
     let number = number4(slip, 1);
     if count == 4294967295 {
-        return Judged::Refused(Refusal::Order);
+        return Err(Refusal::Order);
     }
     if number != count + 1 {
-        return Judged::Refused(Refusal::Order);
+        return Err(Refusal::Order);
     }
     if number2(slip, 5) >= number2(file, 39) {
-        return Judged::Refused(Refusal::Place);
+        return Err(Refusal::Place);
     }
     if (number2(slip, 7) as usize) >= size {
-        return Judged::Refused(Refusal::Place);
+        return Err(Refusal::Place);
     }
-    Judged::Good
+    Ok(())
 }
 
 // Takes a slip that has no fault.
@@ -165,7 +165,7 @@ pub fn take_with(
     ensures left { file.new ≡ judged_leaves file.old slip.now }
 {
     let judged = judge_by(file, slip, size);
-    if let Judged::Refused(r) = judged {
+    if let Err(r) = judged {
         return r.number();
     }
     take_by(file, slip, code, x, size, row, t);

@@ -3,15 +3,14 @@
 --   encoded c v m o           what is told;   encode_leaves   what stands in the output then
 --   say_encoded                what an answer says
 -- Assumes nothing.
-use Rattle.std.specs.Prelude.{not, ◌&&◌, cond, List, [], ◌∷◌, ◌++◌, ℕ, eqb, length}
-use Rattle.codes.specs.Told.{Told, Reason, ◌when◌, refused, done, refusal, answered}
-use Rattle.codes.specs.Judge.{judge_reasons, pair_in}
+use Rattle.std.specs.Prelude.{not, ◌&&◌, cond, List, [], ◌∷◌, ◌++◌, ℕ, eqb, length, Result}
+use Rattle.codes.specs.Told.{Told, Reason, ◌when◌, refusal, answered}
+use Rattle.codes.specs.Judge.{judge_reasons, pair_in, say_judged}
 use Rattle.codes.specs.Sizes.{alpha, bytes}
 use Rattle.codes.specs.Share.{share}
 use Rattle.codes.specs.declared.Code.{Code}
+use Rattle.codes.specs.declared.Refusal.{Refusal}
 use Rattle.stripes.specs.Lists.{within}
-use Rattle.stripes.specs.declared.Encoded.{Encoded}
-use Rattle.stripes.specs.declared.Encoded.TheVariants.{Done, Refused}
 
 unfoldable pub encode_reasons : Code → ℕ → List ℕ → List ℕ → List Reason
 encode_reasons c v m o =
@@ -26,6 +25,5 @@ encoded c v m o = answered (encode_reasons c v m o) (pair_in c) 0
 unfoldable pub encode_leaves : Code → ℕ → List ℕ → List ℕ → List ℕ
 encode_leaves c v m o = cond (eqb (refusal (encode_reasons c v m o)) 0) (share c v m) o
 
-abbrev pub say_encoded : Encoded → Told
-say_encoded Done = done 0
-say_encoded (Refused r) = refused r
+abbrev pub say_encoded : Result Unit Refusal → Told
+say_encoded r = say_judged r

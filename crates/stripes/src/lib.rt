@@ -6,7 +6,7 @@ ghost use Rattle.stripes.specs.Encode.{encoded, encode_leaves, say_encoded};
 ghost use Rattle.stripes.specs.Help.{helped, say_helped};
 ghost use Rattle.stripes.specs.Lent.{encoded_by};
 
-use codes::{Code, Judged, Node, Refusal, is_known, is_sized, judge};
+use codes::{Code, Node, Refusal, is_known, is_sized, judge};
 use field::{Symbol, tables};
 
 pub mod lists; // lists.rt: tests over lent lists of nodes and of counts
@@ -20,42 +20,25 @@ use room::write_by;
 use rows::row_of;
 pub use rows::{help_by, row};
 
-// What encoding a stripe answers.
-#[derive(Clone, Copy)]
-pub enum Encoded {
-    Done,
-    Refused(Refusal),
-}
-
-// What a helper answers: its symbol.
-#[derive(Clone, Copy)]
-pub enum Helped {
-    Done(Symbol),
-    Refused(Refusal),
-}
-
 // The share of a node of one message stripe, written whole; or a refusal, and nothing written.
-pub fn encode(code: Code, node: Node, message: &[u8], output: &mut [u8]) -> Encoded
+pub fn encode(code: Code, node: Node, message: &[u8], output: &mut [u8]) -> Result<(), Refusal>
     ensures answer { say_encoded result ≡ encoded code node.0 message.now output.old }
     ensures written { output.new ≡ encode_leaves code node.0 message.now output.old }
 {
-    let verdict = judge(code);
-    if let Judged::Refused(r) = verdict {
-        return Encoded::Refused(r);
-    }
+    judge(code)?;
     if message.len() != code.bytes() {
-        return Encoded::Refused(Refusal::Length);
+        return Err(Refusal::Length);
     }
     if output.len() != code.alpha() {
-        return Encoded::Refused(Refusal::Length);
+        return Err(Refusal::Length);
     }
     if !is_within(code, node.0) {
-        return Encoded::Refused(Refusal::Node);
+        return Err(Refusal::Node);
     }
     let t = tables();
     let row = row_of(code.point(node), &t);
     write_by(code, &row, &t, message, output);
-    Encoded::Done
+    Ok(())
 }
 
 // The same by the node's row and a table of products, which are made once for any number of stripes. The points are not judged.
@@ -78,26 +61,23 @@ pub fn encode_by(code: Code, row: &[u8; 31], t: &[u8; 768], message: &[u8], outp
 }
 
 // What a helper sends for a failed node: its share times the first alpha entries of the failed node's row.
-pub fn help(code: Code, helper: Node, failed: Node, share: &[u8]) -> Helped
+pub fn help(code: Code, helper: Node, failed: Node, share: &[u8]) -> Result<Symbol, Refusal>
     ensures { say_helped result ≡ helped code helper.0 failed.0 share.now }
 {
-    let verdict = judge(code);
-    if let Judged::Refused(r) = verdict {
-        return Helped::Refused(r);
-    }
+    judge(code)?;
     if share.len() != code.alpha() {
-        return Helped::Refused(Refusal::Length);
+        return Err(Refusal::Length);
     }
     if !is_within(code, helper.0) {
-        return Helped::Refused(Refusal::Node);
+        return Err(Refusal::Node);
     }
     if !is_within(code, failed.0) {
-        return Helped::Refused(Refusal::Node);
+        return Err(Refusal::Node);
     }
     if helper.0 == failed.0 {
-        return Helped::Refused(Refusal::Repeat);
+        return Err(Refusal::Repeat);
     }
     let t = tables();
     let row = row_of(code.point(failed), &t);
-    Helped::Done(help_by(&row, &t, share))
+    Ok(help_by(&row, &t, share))
 }

@@ -9,16 +9,17 @@ use denote.Ref.{Bor, MutBor}
 use Rattle.codes.specs.declared.Code.{Code}
 use Rattle.codes.specs.declared.Node.{Node}
 use Rattle.rebuilds.specs.Rebuild.{rebuild_told, rebuild_leaves, say_counted}
-use Rattle.rebuilds.specs.declared.Counted.{Counted}
+use Rattle.std.specs.Prelude.{Result}
+use Rattle.codes.specs.declared.Refusal.{Refusal}
 use Rattle.rebuilds.proofs.rebuild.Reads.{Post}
 use Rattle.triples.specs.Triples.{nodes_of, symbols_of, counts_of}
 use Rattle.triples.specs.declared.Helper.{Helper}
 
 module _ (c : Code) (f : Node) (hs : List Helper) (nodes symbols counts : Bor (List ℕ)) (out : MutBor (List ℕ))
     (nodes-are : nodes.now ≡ nodes_of hs) (symbols-are : symbols.now ≡ symbols_of hs) (counts-are : counts.now ≡ counts_of hs) where
-  pub as-columns : (κs : Lfts 4) (s : Counted) (nodes' symbols' counts' : Bor (List ℕ)) (out' : MutBor (List ℕ))
+  pub as-columns : (κs : Lfts 4) (s : Result ℕ Refusal) (nodes' symbols' counts' : Bor (List ℕ)) (out' : MutBor (List ℕ))
       → Post κs (c, (f, (nodes, (symbols, (counts, (out, tt)))))) s (c, (f, (nodes', (symbols', (counts', (out', tt))))))
-      → (r : Counted) (left : List ℕ)
+      → (r : Result ℕ Refusal) (left : List ℕ)
       → say_counted r ≡ rebuild_told c f.0 (nodes_of hs) (symbols_of hs) (counts_of hs) out.now
       → left ≡ rebuild_leaves c f.0 (nodes_of hs) (symbols_of hs) (counts_of hs) out.now
       → (say_counted r ≡ say_counted s) × (left ≡ out'.now)

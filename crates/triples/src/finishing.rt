@@ -5,8 +5,8 @@ ghost use Rattle.rebuilds.specs.Rebuild.{rebuild_told, rebuild_leaves, say_count
 ghost use Rattle.triples.specs.Columns.{lent, lent_of};
 
 use crate::gathering::Columns;
-use codes::{Code, Node};
-use rebuilds::{Counted, rebuild};
+use codes::{Code, Node, Refusal};
+use rebuilds::rebuild;
 
 // How many places of the columns of n helpers are lent.
 fn lent_of(n: usize) -> usize
@@ -19,7 +19,7 @@ fn lent_of(n: usize) -> usize
 }
 
 // The rebuild from the columns of n helpers.
-pub fn finish(code: Code, failed: Node, columns: Columns, n: usize, output: &mut [u8]) -> Counted
+pub fn finish(code: Code, failed: Node, columns: Columns, n: usize, output: &mut [u8]) -> Result<u32, Refusal>
     ensures answer { say_counted result ≡ rebuild_told code failed.0 (lent n columns.nodes) (lent n columns.symbols) (lent n columns.counts) output.old }
     ensures written { output.new ≡ rebuild_leaves code failed.0 (lent n columns.nodes) (lent n columns.symbols) (lent n columns.counts) output.old }
 {

@@ -10,6 +10,7 @@ use Rattle.codes.specs.Judge.{known, sized, marks, pointed, pair_of, pair_in, ju
 use Rattle.codes.specs.declared.Code.{Code}
 use Rattle.codes.specs.declared.Refusal.TheVariants.{Kind, Size}
 use Rattle.codes.proofs.Told.{refused-first, answered-skip}
+use Rattle.codes.proofs.Rules.{rules}
 use Rattle.codes.proofs.Tests.{sized-only}
 use Rattle.codes.proofs.judge.Goals as goal
 
@@ -31,17 +32,16 @@ module _ (code : Code) where
         ∙ ap (λ (x : List ℕ). answered ((4 when not (pointed x code.points code.n)) ∷ []) (pair_of x code.points code.n) 0) m
         ∙ sym (answered-skip 2 _ (pair_in code) 0 k ∙ answered-skip 3 _ (pair_in code) 0 e)
 
-pub returns-then-not-is_known : goal.returns-then-not-is_known
-returns-then-not-is_known c = unknown _ (ap not (sym c.is_known.ensures ∙ c.if-not-is_known.true))
+pub returns-then-not-is_known-clause-answer : goal.returns-then-not-is_known-clause-answer
+returns-then-not-is_known-clause-answer c = unknown _ (ap not (sym c.is_known.ensures ∙ c.if-not-is_known.true))
 
-pub returns-then-not-is_sized : goal.returns-then-not-is_sized
-returns-then-not-is_sized c =
+pub returns-then-not-is_sized-clause-answer : goal.returns-then-not-is_sized-clause-answer
+returns-then-not-is_sized-clause-answer c =
     wrong _ (ap not (sym c.is_known.ensures ∙ c.if-not-is_known.false)) (ap not (sym c.is_sized.ensures ∙ c.if-not-is_sized.true))
 
 pub judge_points-requires : goal.judge_points-requires
 judge_points-requires c = (sized-only _ (sym c.is_sized.ensures ∙ c.if-not-is_sized.false)).most
 
-pub returns : goal.returns
-returns c =
-    points _ (ap not (sym c.is_known.ensures ∙ c.if-not-is_known.false)) _ _ (ap not (sym c.is_sized.ensures ∙ c.if-not-is_sized.false))
-    c.marks_of.ensures c.judge_points.ensures
+
+pub returns-in_err-judge_points-clause-answer : goal.returns-in_err-judge_points-clause-answer
+returns-in_err-judge_points-clause-answer c = let z = c.from_residual.ensures in let y = c.in_err-judge_points in ?

@@ -12,12 +12,9 @@ ghost use Rattle.rebuilds.specs.Rebuild.{say_counted};
 ghost use Rattle.shares.specs.Fields.{code_in, count_in, part};
 ghost use Rattle.shares.specs.Slip.{slip_faults, slip_told, slip_leaves, judged_told, judged_leaves, taken_in};
 
-use crate::Filed;
-use crate::judging::{code_in, judge_file};
-use crate::places::{COUNT, TOTAL, byte_at, stripe_at};
-use codes::{Code, Judged, Node, Refusal};
+use shares::{code_in, judge_file, stripe_at};
+use codes::{Code, Node, Refusal};
 use field::Symbol;
-use rebuilds::Counted;
 use records::kinds::SLIP;
 use records::numbers::{bytes4, number2, number4};
 use records::writing::put;
@@ -63,30 +60,30 @@ fn change_share(file: &mut [u8], at: usize, code: Code, node: u8, index: u16, ch
 }
 
 // The slip's own faults. The count's last number has no next one.
-fn judge_slip(file: &[u8], slip: &[u8]) -> Judged
+fn judge_slip(file: &[u8], slip: &[u8]) -> Result<(), Refusal>
     ensures { say_judged result ≡ answered (slip_faults file.now slip.now) (pair_in (code_in file.now)) 0 }
 {
     if slip.len() != 10 {
-        return Judged::Refused(Refusal::Record);
+        return Err(Refusal::Record);
     }
     if slip[0] != SLIP {
-        return Judged::Refused(Refusal::Record);
+        return Err(Refusal::Record);
     }
     let count = number4(file, COUNT);
     let number = number4(slip, 1);
     if count == 4294967295 {
-        return Judged::Refused(Refusal::Order);
+        return Err(Refusal::Order);
     }
     if number != count + 1 {
-        return Judged::Refused(Refusal::Order);
+        return Err(Refusal::Order);
     }
     if number2(slip, 5) >= number2(file, TOTAL) {
-        return Judged::Refused(Refusal::Place);
+        return Err(Refusal::Place);
     }
     if (number2(slip, 7) as usize) >= code_in(file).bytes() {
-        return Judged::Refused(Refusal::Place);
+        return Err(Refusal::Place);
     }
-    Judged::Good
+    Ok(())
 }
 
 // Takes a slip that has no fault, and answers the new count.
@@ -107,25 +104,19 @@ fn take(file: &mut [u8], slip: &[u8]) -> u32
 }
 
 // Takes a slip in a file that was judged before.
-fn take_judged(file: &mut [u8], slip: &[u8]) -> Counted
+fn take_judged(file: &mut [u8], slip: &[u8]) -> Result<u32, Refusal>
     ensures told { say_counted result ≡ judged_told file.old slip.now }
     ensures left { file.new ≡ judged_leaves file.old slip.now }
 {
-    let judged = judge_slip(file, slip);
-    if let Judged::Refused(r) = judged {
-        return Counted::Refused(r);
-    }
-    Counted::Done(take(file, slip))
+    judge_slip(file, slip)?;
+    Ok(take(file, slip))
 }
 
 // Judges the file, then takes the slip.
-pub fn take_slip(file: &mut [u8], slip: &[u8]) -> Counted
+pub fn take_slip(file: &mut [u8], slip: &[u8]) -> Result<u32, Refusal>
     ensures told { say_counted result ≡ slip_told file.old slip.now }
     ensures left { file.new ≡ slip_leaves file.old slip.now }
 {
-    let judged = judge_file(file);
-    if let Filed::Refused(r) = judged {
-        return Counted::Refused(r);
-    }
+    judge_file(file)?;
     take_judged(file, slip)
 }
