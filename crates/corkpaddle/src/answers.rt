@@ -1,14 +1,51 @@
 // The answers of the proved functions, as they cross: number, pair and count.
-ghost use Rattle.codes.specs.Told.{refused, done};
-ghost use Rattle.codes.specs.Judge.{say_judged};
-ghost use Rattle.stripes.specs.Encode.{say_encoded};
-ghost use Rattle.rebuilds.specs.Rebuild.{say_counted};
-ghost use Rattle.shares.specs.File.{say_filed};
+ghost use Rattle.std.specs.Prelude.{◌≡◌, ℕ};
+ghost use Rattle.codes.specs.Told.{refused, say};
 ghost use Rattle.corkpaddle.specs.Boundary.{Says};
 
 use crate::Answer;
-use codes::Refusal;
+use codes::{Accepted, Refusal};
 use shares::Filed;
+
+// What a done answer carries across: a slip count, or 0 where it has none.
+pub trait Carries {
+    ghost count_in: { Self → ℕ };
+
+    fn count(self) -> u32
+        ensures { result ≡ count_in self };
+}
+
+impl Carries for () {
+    ghost count_in = { λ _. 0 };
+
+    fn count(self) -> u32 {
+        0
+    }
+}
+
+impl Carries for Accepted {
+    ghost count_in = { λ _. 0 };
+
+    fn count(self) -> u32 {
+        0
+    }
+}
+
+impl Carries for u32 {
+    ghost count_in = { λ n. n };
+
+    fn count(self) -> u32 {
+        self
+    }
+}
+
+impl Carries for Filed {
+    ghost count_in = { λ f. f.count };
+
+    fn count(self) -> u32 {
+        self.count
+    }
+}
 
 pub fn refused(r: Refusal) -> Answer
     ensures { Says result (refused r) }
@@ -21,61 +58,17 @@ pub fn refused(r: Refusal) -> Answer
     }
 }
 
-pub fn done(count: u32) -> Answer
-    ensures { Says result (done count) }
-{
-    Answer {
-        number: 0,
-        first: 0,
-        second: 0,
-        count,
-    }
-}
-
-pub fn of_judged(answer: Judged) -> Answer
-    ensures { Says result (say_judged answer) }
-{
-    if let Err(r) = answer {
-        return refused(r);
-    }
-    done(0)
-}
-
-pub fn of_encoded(answer: Encoded) -> Answer
-    ensures { Says result (say_encoded answer) }
-{
-    if let Err(r) = answer {
-        return refused(r);
-    }
-    done(0)
-}
-
-pub fn of_counted(answer: Counted) -> Answer
-    ensures { Says result (say_counted answer) }
+// Any answer, as it crosses.
+pub fn crossing<T: Carries>(answer: Result<T, Refusal>) -> Answer
+    ensures { Says result (say T.count_in answer) }
 {
     match answer {
-        Err(r) => {
-            return refused(r);
-        }
-        Ok(count) => {
-            return done(count);
-        }
-    }
-}
-
-pub fn of_filed(answer: Filed) -> Answer
-    ensures { Says result (say_filed answer) }
-{
-    match answer {
-        Err(fault) => {
-            return refused(fault);
-        }
-        Filed::Good {
-            node: _,
-            stripes: _,
-            count: slips,
-        } => {
-            return done(slips);
-        }
+        Ok(done) => Answer {
+            number: 0,
+            first: 0,
+            second: 0,
+            count: done.count(),
+        },
+        Err(r) => refused(r),
     }
 }

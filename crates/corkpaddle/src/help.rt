@@ -4,7 +4,7 @@ ghost use Rattle.corkpaddle.specs.Boundary.{Says};
 ghost use Rattle.corkpaddle.specs.Help.{help_told, help_leaves};
 
 use crate::Answer;
-use crate::answers::{done, refused};
+use crate::answers::{crossing, refused};
 use codes::{Code, Node, Refusal, judge};
 use stripes::help;
 
@@ -13,21 +13,17 @@ pub fn help_into(code: Code, helper: Node, failed: Node, share: &[u8], output: &
     ensures answer { Says result (help_told code helper.0 failed.0 share.now output.old) }
     ensures written { output.new ≡ help_leaves code helper.0 failed.0 share.now output.old }
 {
-    let verdict = judge(code);
-    if let Err(r) = verdict {
+    if let Err(r) = judge(code) {
         return refused(r);
     }
     if output.len() != 1 {
         return refused(Refusal::Length);
     }
-    let answer = help(code, helper, failed, share);
-    match answer {
-        Err(r) => {
-            return refused(r);
+    match help(code, helper, failed, share) {
+        Ok(symbol) => {
+            output[0] = symbol.0;
+            crossing(Ok(()))
         }
-        Ok(s) => {
-            output[0] = s.0;
-            return done(0);
-        }
+        Err(r) => refused(r),
     }
 }

@@ -18,23 +18,18 @@ pub struct Record {
 pub fn corkpaddle_read(file: &[u8], place: u64) -> Record
     ensures { Shows result (read_at file.now place) }
 {
-    let found = read_at(file, place as usize);
-    match found {
-        Read::Body { start, end, next } => {
-            return Record {
-                number: 0,
-                start: start as u64,
-                end: end as u64,
-                next: next as u64,
-            };
-        }
-        Read::Refused { place: at } => {
-            return Record {
-                number: 1,
-                start: 0,
-                end: 0,
-                next: at as u64,
-            };
-        }
+    match read_at(file, place as usize) {
+        Ok(found) => Record {
+            number: 0,
+            start: found.start as u64,
+            end: found.end as u64,
+            next: found.next as u64,
+        },
+        Err(none) => Record {
+            number: 1,
+            start: 0,
+            end: 0,
+            next: none.place as u64,
+        },
     }
 }

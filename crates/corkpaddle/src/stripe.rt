@@ -1,5 +1,5 @@
 // One stripe, from outside. A code is the body of its C record, and is tested for its length before all else.
-ghost use Rattle.std.specs.Prelude.{◌≡◌};
+ghost use Rattle.std.specs.Prelude.{◌≡◌, true, false, IfSome, IfNone};
 ghost use Rattle.codes.specs.Body.{code_at};
 ghost use Rattle.codes.specs.Judge.{judged};
 ghost use Rattle.stripes.specs.Encode.{encoded, encode_leaves};
@@ -9,28 +9,33 @@ ghost use Rattle.corkpaddle.specs.Boundary.{Says, is_code, coded, kept};
 ghost use Rattle.corkpaddle.specs.Help.{help_told, help_leaves};
 
 use crate::Answer;
-use crate::answers::{of_counted, of_encoded, of_judged, refused};
+use crate::answers::{crossing, refused};
 use crate::help::help_into;
-use codes::{Node, Refusal, code_at, judge};
+use codes::{Code, Node, Refusal, code_at, judge};
 use collects::collect;
 use rebuilds::rebuild;
 use stripes::encode;
 
-// Whether a run is as long as a code.
-pub(crate) fn is_code(run: &[u8]) -> bool
-    ensures { result ≡ is_code run.now }
+// The code in a run that is as long as one.
+pub(crate) fn code_of(run: &[u8]) -> Option<Code>
+    ensures some { IfSome result (λ k. (is_code run.now ≡ true) × (k ≡ code_at run.now 0)) }
+    ensures none { IfNone result (is_code run.now ≡ false) }
 {
-    run.len() == 36
+    if run.len() == 36 {
+        Some(code_at(run, 0))
+    } else {
+        None
+    }
 }
 
 // Whether the code is accepted.
 pub fn corkpaddle_judge(code: &[u8]) -> Answer
     ensures { Says result (coded code.now (judged (code_at code.now 0))) }
 {
-    if !is_code(code) {
+    let Some(code) = code_of(code) else {
         return refused(Refusal::Length);
-    }
-    of_judged(judge(code_at(code, 0)))
+    };
+    crossing(judge(code))
 }
 
 // The share of a node of one message stripe.
@@ -38,10 +43,10 @@ pub fn corkpaddle_encode(code: &[u8], node: u8, message: &[u8], output: &mut [u8
     ensures answer { Says result (coded code.now (encoded (code_at code.now 0) node message.now output.old)) }
     ensures written { output.new ≡ kept code.now output.old (encode_leaves (code_at code.now 0) node message.now output.old) }
 {
-    if !is_code(code) {
+    let Some(code) = code_of(code) else {
         return refused(Refusal::Length);
-    }
-    of_encoded(encode(code_at(code, 0), Node(node), message, output))
+    };
+    crossing(encode(code, Node(node), message, output))
 }
 
 // What a helper with this share sends for a failed node, into an output of one byte.
@@ -55,10 +60,10 @@ pub fn corkpaddle_help(
     ensures answer { Says result (coded code.now (help_told (code_at code.now 0) helper failed share.now output.old)) }
     ensures written { output.new ≡ kept code.now output.old (help_leaves (code_at code.now 0) helper failed share.now output.old) }
 {
-    if !is_code(code) {
+    let Some(code) = code_of(code) else {
         return refused(Refusal::Length);
-    }
-    help_into(code_at(code, 0), Node(helper), Node(failed), share, output)
+    };
+    help_into(code, Node(helper), Node(failed), share, output)
 }
 
 // The share of a failed node from its helpers' nodes, symbols and slip counts, which stand in one order; the helpers' count.
@@ -73,17 +78,10 @@ pub fn corkpaddle_rebuild(
     ensures answer { Says result (coded code.now (rebuild_told (code_at code.now 0) failed nodes.now symbols.now counts.now output.old)) }
     ensures written { output.new ≡ kept code.now output.old (rebuild_leaves (code_at code.now 0) failed nodes.now symbols.now counts.now output.old) }
 {
-    if !is_code(code) {
+    let Some(code) = code_of(code) else {
         return refused(Refusal::Length);
-    }
-    of_counted(rebuild(
-        code_at(code, 0),
-        Node(failed),
-        nodes,
-        symbols,
-        counts,
-        output,
-    ))
+    };
+    crossing(rebuild(code, Node(failed), nodes, symbols, counts, output))
 }
 
 // The message stripe from k shares in one run, with their nodes and slip counts in the same order; the shares' count.
@@ -97,8 +95,8 @@ pub fn corkpaddle_collect(
     ensures answer { Says result (coded code.now (collect_told (code_at code.now 0) nodes.now counts.now shares.now output.old)) }
     ensures written { output.new ≡ kept code.now output.old (collect_leaves (code_at code.now 0) nodes.now counts.now shares.now output.old) }
 {
-    if !is_code(code) {
+    let Some(code) = code_of(code) else {
         return refused(Refusal::Length);
-    }
-    of_counted(collect(code_at(code, 0), nodes, counts, shares, output))
+    };
+    crossing(collect(code, nodes, counts, shares, output))
 }

@@ -9,11 +9,11 @@ ghost use Rattle.corkpaddle.specs.Boundary.{Says, coded, kept};
 ghost use Rattle.corkpaddle.specs.Totals.{misfit, coded_for};
 
 use crate::Answer;
-use crate::answers::{of_counted, of_encoded, refused};
-use crate::stripe::is_code;
+use crate::answers::{crossing, refused};
+use crate::stripe::code_of;
 use batches::{rebuild_batch, rebuild_file};
 use books::cut;
-use codes::{Node, Refusal, code_at};
+use codes::{Node, Refusal};
 use shares::is_total;
 
 // The refusal of a code run of another length. A stripe total outside its rule has the smaller number.
@@ -31,10 +31,10 @@ pub fn corkpaddle_rebuild_batch(code: &[u8], asked: u8, batch: &[u8], output: &m
     ensures answer { Says result (coded code.now (batch_told (code_at code.now 0) asked batch.now output.old)) }
     ensures written { output.new ≡ kept code.now output.old (batch_leaves (code_at code.now 0) asked batch.now output.old) }
 {
-    if !is_code(code) {
+    let Some(code) = code_of(code) else {
         return refused(Refusal::Length);
-    }
-    of_counted(rebuild_batch(code_at(code, 0), Node(asked), batch, output))
+    };
+    crossing(rebuild_batch(code, Node(asked), batch, output))
 }
 
 // The share file of the asked node from a batch for each stripe, in order; the helpers' count.
@@ -48,10 +48,10 @@ pub fn corkpaddle_rebuild_file(
     ensures answer { Says result (coded_for code.now stripes (whole_told (code_at code.now 0) asked stripes batches.now output.old)) }
     ensures written { output.new ≡ kept code.now output.old (whole_leaves (code_at code.now 0) asked stripes batches.now output.old) }
 {
-    if !is_code(code) {
+    let Some(code) = code_of(code) else {
         return refused_beside(stripes);
-    }
-    of_counted(rebuild_file(code_at(code, 0), Node(asked), stripes, batches, output))
+    };
+    crossing(rebuild_file(code, Node(asked), stripes, batches, output))
 }
 
 // The fresh share file of a node of a book.
@@ -59,8 +59,8 @@ pub fn corkpaddle_cut(code: &[u8], node: u8, stripes: u32, book: &[u8], output: 
     ensures answer { Says result (coded_for code.now stripes (cut_told (code_at code.now 0) node stripes book.now output.old)) }
     ensures written { output.new ≡ kept code.now output.old (cut_leaves (code_at code.now 0) node stripes book.now output.old) }
 {
-    if !is_code(code) {
+    let Some(code) = code_of(code) else {
         return refused_beside(stripes);
-    }
-    of_encoded(cut(code_at(code, 0), Node(node), stripes, book, output))
+    };
+    crossing(cut(code, Node(node), stripes, book, output))
 }

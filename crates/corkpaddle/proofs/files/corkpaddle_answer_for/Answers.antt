@@ -5,4 +5,4 @@ use Rattle.corkpaddle.proofs.files.corkpaddle_answer_for.Goals as goal
 pub returns : goal.returns
 returns c =
     let t = c.answer_for.ensures in
-    record { answer = says t.told c.of_encoded.ensures; written = t.left }
+    record { answer = says t.told c.crossing.ensures; written = t.left }

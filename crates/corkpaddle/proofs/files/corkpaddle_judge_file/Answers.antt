@@ -5,4 +5,4 @@ use Rattle.corkpaddle.proofs.files.corkpaddle_judge_file.Goals as goal
 
 pub returns : goal.returns
 unfolding file_told
-returns c = says c.judge_file.ensures.answer c.of_filed.ensures
+returns c = says c.judge_file.ensures.answer c.crossing.ensures

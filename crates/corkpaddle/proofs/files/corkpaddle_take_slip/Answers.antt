@@ -5,4 +5,4 @@ use Rattle.corkpaddle.proofs.files.corkpaddle_take_slip.Goals as goal
 pub returns : goal.returns
 returns c =
     let t = c.take_slip.ensures in
-    record { answer = says t.told c.of_counted.ensures; written = t.left }
+    record { answer = says t.told c.crossing.ensures; written = t.left }

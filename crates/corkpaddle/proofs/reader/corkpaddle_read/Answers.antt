@@ -3,8 +3,8 @@ use mathlib.Core.Path.{refl}
 use Rattle.corkpaddle.proofs.Shown.{shows}
 use Rattle.corkpaddle.proofs.reader.corkpaddle_read.Goals as goal
 
-pub returns-in-Body : goal.returns-in-Body
-returns-in-Body c = shows c.in-Body.ensures.answer (record { number = refl; start = refl; end = refl; next = refl })
+pub returns-in-Ok : goal.returns-in-Ok
+returns-in-Ok c = shows c.in-Ok.ensures.answer (record { number = refl; start = refl; end = refl; next = refl })
 
-pub returns-in-Refused : goal.returns-in-Refused
-returns-in-Refused c = shows c.in-Refused.ensures.answer (record { number = refl; start = refl; end = refl; next = refl })
+pub returns-in-Err : goal.returns-in-Err
+returns-in-Err c = shows c.in-Err.ensures.answer (record { number = refl; start = refl; end = refl; next = refl })

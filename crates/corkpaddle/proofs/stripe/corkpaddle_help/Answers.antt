@@ -5,16 +5,16 @@ use Rattle.corkpaddle.specs.Help.{help_told, help_leaves}
 use Rattle.corkpaddle.proofs.Coded.{stopped, as_was, goes_on}
 use Rattle.corkpaddle.proofs.stripe.corkpaddle_help.Goals as goal
 
-pub returns-then-not-is_code : goal.returns-then-not-is_code
-returns-then-not-is_code c =
-    let b = sym c.is_code.ensures ∙ c.if-not-is_code.true in
+pub returns-in_default : goal.returns-in_default
+returns-in_default c =
+    let b = c.in_default.ensures.none in
     record { answer = stopped _ b _ c.refused.ensures; written = as_was _ b _ _ }
 
 pub returns : goal.returns
 returns c =
     let s = c.args in
-    let p = goes_on _ (sym c.is_code.ensures ∙ c.if-not-is_code.false)
+    let p = goes_on _ c.in-Some.ensures.some.0
     (λ (k : Code). help_told k s.helper s.failed s.share.now s.output.now)
     (λ (k : Code). help_leaves k s.helper s.failed s.share.now s.output.now) _
-    c.code_at.ensures refl c.help_into.ensures.written c.help_into.ensures.answer
+    c.in-Some.ensures.some.1 refl c.help_into.ensures.written c.help_into.ensures.answer
     in record { answer = p.0; written = p.1 }

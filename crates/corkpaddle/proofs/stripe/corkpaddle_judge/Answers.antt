@@ -4,10 +4,10 @@ use Rattle.codes.specs.Judge.{judged}
 use Rattle.corkpaddle.proofs.Coded.{stopped, passed}
 use Rattle.corkpaddle.proofs.stripe.corkpaddle_judge.Goals as goal
 
-pub returns-then-not-is_code : goal.returns-then-not-is_code
-returns-then-not-is_code c = stopped _ (sym c.is_code.ensures ∙ c.if-not-is_code.true) _ c.refused.ensures
+pub returns-in_default : goal.returns-in_default
+returns-in_default c = stopped _ (c.in_default.ensures.none) _ c.refused.ensures
 
 pub returns : goal.returns
 returns c =
-    passed _ (sym c.is_code.ensures ∙ c.if-not-is_code.false)
-    (c.judge.ensures ∙ ap judged c.code_at.ensures) c.of_judged.ensures
+    passed _ c.in-Some.ensures.some.0
+    (c.judge.ensures.answer ∙ ap judged c.in-Some.ensures.some.1) c.crossing.ensures

@@ -6,18 +6,18 @@ use Rattle.corkpaddle.proofs.Coded.{as_was, goes_on}
 use Rattle.corkpaddle.proofs.Misfits.{halted, runs_on}
 use Rattle.corkpaddle.proofs.wholes.corkpaddle_rebuild_file.Goals as goal
 
-pub returns-then-not-is_code : goal.returns-then-not-is_code
-returns-then-not-is_code c =
-    let b = sym c.is_code.ensures ∙ c.if-not-is_code.true in
+pub returns-in_default : goal.returns-in_default
+returns-in_default c =
+    let b = c.in_default.ensures.none in
     record { answer = halted _ _ b _ c.refused_beside.ensures; written = as_was _ b _ _ }
 
 pub returns : goal.returns
 returns c =
     let s = c.args in
-    let g = sym c.is_code.ensures ∙ c.if-not-is_code.false in
+    let g = c.in-Some.ensures.some.0 in
     let p = runs_on _ s.stripes g _
     (goes_on _ g
     (λ (k : Code). whole_told k s.asked s.stripes s.batches.now s.output.now)
     (λ (k : Code). whole_leaves k s.asked s.stripes s.batches.now s.output.now) _
-    c.code_at.ensures c.rebuild_file.ensures.told c.rebuild_file.ensures.left c.of_counted.ensures)
+    c.in-Some.ensures.some.1 c.rebuild_file.ensures.told c.rebuild_file.ensures.left c.crossing.ensures)
     in record { answer = p.0; written = p.1 }
