@@ -5,10 +5,10 @@ use Rattle.shares.proofs.code_in.Kinds as code-in-kinds
 use Rattle.shares.proofs.code_in.Reads as code-in-reads
 use Rattle.shares.proofs.judge_file.Kinds as judge-file-kinds
 use Rattle.shares.proofs.judge_file.Reads as judge-file-reads
-use Rattle.shares.proofs.take_slip.Kinds as take-slip-kinds
-use Rattle.shares.proofs.take_slip.Reads as take-slip-reads
-use Rattle.shares.proofs.is_node.Kinds as is-node-kinds
-use Rattle.shares.proofs.is_node.Reads as is-node-reads
+use Rattle.streams.proofs.take_slip.Kinds as take-slip-kinds
+use Rattle.streams.proofs.take_slip.Reads as take-slip-reads
+use Rattle.stripes.proofs.lists.is_within.Kinds as is-within-kinds
+use Rattle.stripes.proofs.lists.is_within.Reads as is-within-reads
 use Rattle.shares.proofs.stripe_at.Kinds as stripe-at-kinds
 use Rattle.shares.proofs.stripe_at.Reads as stripe-at-reads
 use Rattle.shares.proofs.is_total.Kinds as is-total-kinds
@@ -32,8 +32,7 @@ use Rattle.batches.proofs.rebuild_batch.Reads as rebuild-batch-reads
 use Rattle.batches.proofs.rebuild_file.Kinds as rebuild-file-kinds
 use Rattle.batches.proofs.rebuild_file.Reads as rebuild-file-reads
 use Rattle.demands.specs.Equal.{Equal, EqualLeft}
-use Rattle.codes.proofs.Only.{judged-only}
-use Rattle.demands.proofs.Only.{counted-only, encoded-only, filed-only}
+use Rattle.demands.proofs.Only.{judge-only, counted-only, encoded-only, filed-only}
 
 -- ---- shares
 
@@ -46,7 +45,7 @@ judge-file-equal κs a x y s t p q = filed-only x y (p.answer ∙ sym q.answer) 
 pub take-slip-equal : EqualLeft 2 take-slip-kinds.ps take-slip-kinds.r take-slip-reads.Post (λ κs s. s.0.now)
 take-slip-equal κs a x y s t p q = (counted-only x y (p.0 ∙ sym q.0), p.1 ∙ sym q.1)
 
-pub is-node-equal : Equal 0 is-node-kinds.ps is-node-kinds.r is-node-reads.Post
+pub is-node-equal : Equal 0 is-within-kinds.ps is-within-kinds.r is-within-reads.Post
 is-node-equal κs a x y s t p q = p ∙ sym q
 
 pub stripe-at-equal : Equal 0 stripe-at-kinds.ps stripe-at-kinds.r stripe-at-reads.Post
@@ -56,7 +55,7 @@ pub is-total-equal : Equal 0 is-total-kinds.ps is-total-kinds.r is-total-reads.P
 is-total-equal κs a x y s t p q = p ∙ sym q
 
 pub judge-total-equal : Equal 0 judge-total-kinds.ps judge-total-kinds.r judge-total-reads.Post
-judge-total-equal κs a x y s t p q = judged-only x y (p ∙ sym q)
+judge-total-equal κs a x y s t p q = judge-only _ x y (p.0 ∙ sym q.0) p.1 q.1
 
 pub code-record-equal : Equal 0 code-record-kinds.ps code-record-kinds.r code-record-reads.Post
 code-record-equal κs a x y s t p q = p ∙ sym q

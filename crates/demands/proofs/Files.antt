@@ -30,6 +30,8 @@ use Rattle.codes.proofs.Told.{refusal-skip, refusal-stop, answered-number}
 use Rattle.shares.specs.Fields.{code_in, node_in, stripes_in, count_in, stripe_at}
 use Rattle.shares.specs.File.{below, zero_past, spare, stripe_good, totalled, node_reasons, file_reasons, file_told, given, say_filed, node_told, stripes_told}
 use Rattle.shares.specs.File as share-file
+use Rattle.std.specs.Prelude.{Result}
+use Rattle.codes.specs.declared.Refusal.{Refusal}
 use Rattle.shares.specs.declared.Filed.{Filed}
 use Rattle.shares.specs.Slip.{slip_number, slip_stripe, slip_index, slip_faults, slip_reasons, slip_told, left_by, taken_in, slip_leaves}
 use Rattle.shares.specs.Total.{code_reasons}
@@ -160,7 +162,7 @@ demand1-judge-file = record {
 }
 
 -- the promise fixes the answer, and the node and the total that it names
-module _ (judge : List ℕ → Filed) (keeps : (s : List ℕ) → share-file.Says (file_reasons s) s (judge s)) where
+module _ (judge : List ℕ → Result Filed Refusal) (keeps : (s : List ℕ) → share-file.Says (file_reasons s) s (judge s)) where
   said : (s : List ℕ) → file_told s ≡ say_filed (judge s)
   unfolding file_told
   said s = sym (keeps s).answer
