@@ -6,5 +6,4 @@ pub mod Mul
 pub mod Pow
 pub mod Quotient
 pub mod Lookup
-mod Fills
 pub mod Laws

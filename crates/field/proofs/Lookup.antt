@@ -12,7 +12,7 @@ use Rattle.field.specs.Tables.{powers, logs, tables, unless_zero, by_table, over
 use Rattle.field.proofs.Table.{columns-at}
 use Rattle.field.proofs.Powers.{log-lt}
 use Rattle.field.proofs.Mul.{zero-times, times_zero, times-one}
-use Rattle.field.proofs.Pow.{pow-lt, pow-add, pow-mul, pow-round, generator-order, generator-mod, generator-powers, generator-logs, generator-round, generator-nonzero}
+use Rattle.field.proofs.Pow.{pow-zero, zero-pow, pow-lt, pow-add, pow-mul, pow-round, generator-order, generator-mod, generator-powers, generator-logs, generator-round, generator-nonzero}
 use Rattle.field.proofs.Quotient.{quotient-zero, zero-quotient, quotient-only}
 
 -- ---- by logarithms: i and j are those of a and b
@@ -105,3 +105,11 @@ module _ (t : List ℕ) where
   pub over-entry : (a b : ℕ) → a ≢ 0 → b ≢ 0 → over_table t a b ≡ get_or t (256 + (get_or t a 0 + 255 - get_or t b 0)) 0
   unfolding over_table
   over-entry a b = unless-neither a b (get_or t (256 + (get_or t a 0 + 255 - get_or t b 0)) 0)
+
+-- ---- what a function that looks rests on: by logarithms, by any table, by the right one
+
+pub ruleset by_logarithms = (zero-times, times_zero, mul-logs, zero-quotient, quotient-zero, quotient-logs, pow-zero, zero-pow, pow-logs, generator-mod)
+
+pub ruleset by_a_table = (zero-by, by_zero, by-entry, zero-over, over_zero, over-entry)
+
+pub ruleset by_the_table = (by-tables, over-tables)

@@ -1,10 +1,9 @@
 -- The tables of powers and logarithms, and what a look into one table for both answers. The tables are data: that they are
 -- right is shown in proofs/Powers.antt and proofs/Lookup.antt, for the whole of each at once.
 -- powers: the powers of 2, from 0 to 254.   logs: the logarithm of each symbol.   tables: the logarithms, and 512 powers after them.
--- Filled t i: the first i places of t have what tables has there.   Starts i n: from place i on tables has the first n powers.
 -- unless_zero a b v: v, but 0 where a or b is 0.   by_table t a b, over_table t a b: the product and the quotient, as the table t has them, whatever stands in it.
 -- Assumes nothing.
-use Rattle.std.specs.Prelude.{◌≡◌, List, [], ◌∷◌, ◌++◌, ℕ, zero, suc, ◌+◌, ◌-◌, ◌<◌, ◌≤◌, length, get_or, take}
+use Rattle.std.specs.Prelude.{List, [], ◌∷◌, ◌++◌, ℕ, zero, suc, ◌+◌, ◌-◌, get_or, take}
 
 abbrev pub powers : List ℕ
 powers =
@@ -48,15 +47,6 @@ logs =
 -- 256 logarithms, and from place 256 on the powers, which repeat: a sum of two logarithms needs no division by 255
 unfoldable pub tables : List ℕ
 tables = logs ++ take 512 (powers ++ (powers ++ powers))
-
-pub record Filled (t : List ℕ) (i : ℕ) : Type 0 where
-  pub long : length t ≡ 768
-  pub same : (k : ℕ) → k < i → get_or t k 0 ≡ get_or tables k 0
-
-pub record Starts (i n : ℕ) : Type 0 where
-  pub few : n ≤ 255
-  pub room : i + n ≤ 768
-  pub there : (k : ℕ) → k < n → get_or powers k 0 ≡ get_or tables (i + k) 0
 
 -- v, but 0 where a or b is 0
 unfoldable pub unless_zero : ℕ → ℕ → ℕ → ℕ

@@ -24,6 +24,7 @@ impl Symbol {
 
     pub const GENERATOR: Symbol = Symbol(2);
 
+    // Stays: docs/PROMISES.md and the theorem of-equal name this function, and a From beside it would be a second spelling of it.
     pub fn of(byte: u8) -> Symbol
         ensures { result.0 ≡ byte }
     {

@@ -7,30 +7,27 @@ use crate::antilogs::antilog;
 use crate::logs::log;
 
 impl Symbol {
+    #[tactic(auto, using(crate::proofs::Lookup::by_logarithms))]
     pub fn times(self, b: Symbol) -> Symbol
         ensures { result.0 ≡ mul self.0 b.0 }
     {
-        if self.0 == 0 {
-            return Symbol::ZERO;
-        }
-        if b.0 == 0 {
+        if self.0 == 0 || b.0 == 0 {
             return Symbol::ZERO;
         }
         Symbol(antilog((log(self.0) + log(b.0)) % 255))
     }
 
+    #[tactic(auto, using(crate::proofs::Lookup::by_logarithms))]
     pub fn over(self, divisor: Symbol) -> Symbol
         ensures { result.0 ≡ quotient self.0 divisor.0 }
     {
-        if self.0 == 0 {
-            return Symbol::ZERO;
-        }
-        if divisor.0 == 0 {
-            return Symbol::ZERO; // by zero
+        if self.0 == 0 || divisor.0 == 0 {
+            return Symbol::ZERO; // also by zero
         }
         Symbol(antilog((log(self.0) + 255 - log(divisor.0)) % 255))
     }
 
+    #[tactic(auto, using(crate::proofs::Lookup::by_logarithms))]
     pub fn power(self, n: usize) -> Symbol
         ensures { result.0 ≡ pow self.0 n }
     {
