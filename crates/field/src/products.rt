@@ -31,6 +31,7 @@ impl Products {
     {
         a.over_by(divisor, &self.bytes)
     }
+
     // Of bytes: a + x * b.
     pub fn raised(&self, a: u8, x: u8, b: u8) -> u8
         ensures { result ≡ add a (mul x b) }

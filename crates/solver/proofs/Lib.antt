@@ -1,5 +1,4 @@
 pub mod Linear
 pub mod Points
 pub mod Rows
-pub mod Passes
 pub mod Solutions

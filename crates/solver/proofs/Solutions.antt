@@ -5,19 +5,21 @@ use mathlib.Core.List.{List, []}
 use Prim.Native.Nat.{ℕ, ◌+◌, ◌<◌, ◌≤◌}
 use native.Mathlib.Decide.{dec_lt}
 use native.Mathlib.Omega.{arith}
-use lib.ListN.{length, get_or, set, replicate}
+use lib.ListN.{length, get_or, set, replicate, take}
+use Rattle.std.proofs.lemmas.List.{length-take-le, get_or-take}
 use Rattle.algebra.specs.Symbol.{F, symbol, 𝟘, pow}
-use Rattle.algebra.specs.Sums.{Vec, dot, unit}
+use Rattle.algebra.specs.Sums.{Vec, Same, dot, unit}
 use Rattle.algebra.specs.Poly.{interp, Distinct}
-use Rattle.algebra.specs.Bytes.{at, table}
-use Rattle.algebra.proofs.Ring.{symbol-val}
+use Rattle.algebra.specs.Bytes.{at}
+use Rattle.algebra.proofs.Ring.{symbol-val, val-symbol}
 use Rattle.algebra.proofs.Sums.{pick-lt, pick-ge, dot-same}
 use Rattle.algebra.proofs.Frame.{frame-powers}
-use Rattle.algebra.proofs.Bytes.{table-length, table_same}
+use Rattle.algebra.proofs.Bytes.{table-length, table-ext}
 use Rattle.solver.specs.Rows.{rows_of, entry}
 use Rattle.solver.specs.Basis.{basis_at, basis_of}
 use Rattle.solver.proofs.Rows.{rows-length, rows_row, rows_at, rows-byte, rows_same, rows-zero, rows-store}
 use Rattle.solver.proofs.Linear.{interp-units}
+use Rattle.solver.proofs.Points.{interp-points}
 
 module _ (xs : List ℕ) (s : ℕ) where
   -- ---- the grid row by row, as the loop makes it
@@ -33,9 +35,18 @@ module _ (xs : List ℕ) (s : ℕ) where
   pub basis-none : replicate 31 (replicate 31 0) ≡ rows_of 31 31 (basis_at xs s 0)
   basis-none = rows-zero 31 31 (λ t i h k. at_left 0 t i (omega arith))
 
-  pub basis-more : (u : ℕ) → u < 31 → set (rows_of 31 31 (basis_at xs s u)) u (table 31 (interp s (at xs) (unit u))) ≡ rows_of 31 31 (basis_at xs s (u + 1))
-  basis-more u h =
-      ap (set (rows_of 31 31 (basis_at xs s u)) u) (table_same 31 (λ i k. sym (at_done (u + 1) u i (omega arith))))
+  -- the points that a row is made of are the first s of xs
+  at_first : s ≤ length xs → (u i : ℕ) → interp (length (take s xs)) (at (take s xs)) (unit u) i ≡ interp s (at xs) (unit u) i
+  at_first h u i =
+      ap (λ (n : ℕ). interp n (at (take s xs)) (unit u) i) (length-take-le s xs h)
+      ∙ interp-points s (unit u) (λ t k. ap symbol (get_or-take s xs t 0 k)) i
+
+  pub basis-more : (u : ℕ) (r : List ℕ) → u < 31 → s ≤ 31 → length xs ≡ 31 → length r ≡ 31 → ((i : ℕ) → get_or r i 0 < 256)
+      → Same 31 (at r) (interp (length (take s xs)) (at (take s xs)) (unit u))
+      → set (rows_of 31 31 (basis_at xs s u)) u r ≡ rows_of 31 31 (basis_at xs s (u + 1))
+  basis-more u r h fits long e b m =
+      ap (set (rows_of 31 31 (basis_at xs s u)) u) (table-ext 31 (basis_at xs s (u + 1) u) r e (λ i k. sym (val-symbol (b i))
+      ∙ ap (λ (a : F). a.val) (m i k ∙ at_first (omega arith) u i ∙ sym (at_done (u + 1) u i (omega arith)))))
       ∙ rows-store 31 31 (basis_at xs s u) (basis_at xs s (u + 1)) u h (λ t n i k. by_cases (dec_lt t u)
       (λ l. at_done u t i l ∙ sym (at_done (u + 1) t i (omega arith)))
       (λ l. at_left u t i (omega arith) ∙ sym (at_left (u + 1) t i (omega arith))))

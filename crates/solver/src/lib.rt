@@ -3,84 +3,65 @@
 // Interpolation is Newton's, in place: a pass forward over the values and a pass backward to the coefficients.
 #![tactic(auto)]
 
-ghost use Rattle.std.specs.Prelude.{◌≡◌, ◌+◌, ◌<◌, ◌≤◌};
-ghost use Rattle.field.specs.Tables.{tables};
-ghost use Rattle.algebra.specs.Symbol.{symbol};
-ghost use Rattle.algebra.specs.Sums.{unit};
+ghost use Rattle.std.specs.Prelude.{◌≡◌, ◌+◌, ◌<◌, ◌≤◌, length};
+ghost use Rattle.algebra.specs.Sums.{Same, unit};
 ghost use Rattle.algebra.specs.Poly.{interp};
 ghost use Rattle.algebra.specs.Levels.{Forward, Backward};
-ghost use Rattle.algebra.specs.Bytes.{at, table};
+ghost use Rattle.algebra.specs.Bytes.{at};
 ghost use Rattle.solver.specs.Basis.{basis_of};
-ghost use Rattle.solver.specs.Passes.{Moves, slope_of, raised_of};
+ghost use Rattle.solver.specs.Passes.{Moves};
 
-use field::Symbol;
-
-// (a + b) / (x + y)
-fn slope(a: u8, b: u8, x: u8, y: u8, t: &[u8; 768]) -> u8
-    requires { t.now ≡ tables }
-    ensures { result ≡ (slope_of (symbol a) (symbol b) (symbol x) (symbol y)).val }
-{
-    Symbol(a ^ b).over_by(Symbol(x ^ y), t).0
-}
-
-// a + x * b
-fn raised(a: u8, x: u8, b: u8, t: &[u8; 768]) -> u8
-    requires { t.now ≡ tables }
-    ensures { result ≡ (raised_of (symbol a) (symbol x) (symbol b)).val }
-{
-    a ^ Symbol(x).times_by(Symbol(b), t).0
-}
+use field::Products;
 
 // Round u of the forward pass.
-fn forward_round(a: &mut [u8; 31], xs: &[u8; 31], s: usize, u: usize, t: &[u8; 768])
-    requires { (t.now ≡ tables) × (s ≤ 31) × (u < s) }
-    ensures { Moves s (Forward s u (at xs.now)) (Forward s (u + 1) (at xs.now)) a.old a.new }
+fn forward_round(a: &mut [u8], xs: &[u8], u: usize, t: &Products)
+    requires { (length a.old ≡ length xs.now) × (u < length xs.now) }
+    ensures { let s = length xs.now in Moves (Forward s u (at xs.now)) (Forward s (u + 1) (at xs.now)) a.old a.new }
 {
-    for i in u + 1..s {
-        a[i] = slope(a[i], a[u], xs[i], xs[u], t);
+    for i in u + 1..xs.len() {
+        a[i] = t.slope(a[i], a[u], xs[i], xs[u]);
     }
 }
 
-fn forward(a: &mut [u8; 31], xs: &[u8; 31], s: usize, t: &[u8; 768])
-    requires { (t.now ≡ tables) × (s ≤ 31) }
-    ensures { Moves s (Forward s 0 (at xs.now)) (Forward s s (at xs.now)) a.old a.new }
+fn forward(a: &mut [u8], xs: &[u8], t: &Products)
+    requires { length a.old ≡ length xs.now }
+    ensures { let s = length xs.now in Moves (Forward s 0 (at xs.now)) (Forward s s (at xs.now)) a.old a.new }
 {
-    for u in 0..s {
-        forward_round(a, xs, s, u, t);
+    for u in 0..xs.len() {
+        forward_round(a, xs, u, t);
     }
 }
 
 // Round u of the backward pass.
-fn backward_round(a: &mut [u8; 31], xs: &[u8; 31], s: usize, u: usize, t: &[u8; 768])
-    requires { (t.now ≡ tables) × (s ≤ 31) × (u < s) }
-    ensures { Moves s (Backward s (u + 1) (at xs.now)) (Backward s u (at xs.now)) a.old a.new }
+fn backward_round(a: &mut [u8], xs: &[u8], u: usize, t: &Products)
+    requires { (length a.old ≡ length xs.now) × (u < length xs.now) }
+    ensures { let s = length xs.now in Moves (Backward s (u + 1) (at xs.now)) (Backward s u (at xs.now)) a.old a.new }
 {
-    for i in u..s - 1 {
-        a[i] = raised(a[i], xs[u], a[i + 1], t);
+    for i in u..xs.len() - 1 {
+        a[i] = t.raised(a[i], xs[u], a[i + 1]);
     }
 }
 
-fn backward(a: &mut [u8; 31], xs: &[u8; 31], s: usize, t: &[u8; 768])
-    requires { (t.now ≡ tables) × (s ≤ 31) }
-    ensures { Moves s (Backward s s (at xs.now)) (Backward s 0 (at xs.now)) a.old a.new }
+fn backward(a: &mut [u8], xs: &[u8], t: &Products)
+    requires { length a.old ≡ length xs.now }
+    ensures { let s = length xs.now in Moves (Backward s s (at xs.now)) (Backward s 0 (at xs.now)) a.old a.new }
 {
-    let mut u = s;
-    while u > 0 {
-        u -= 1;
-        backward_round(a, xs, s, u, t);
+    for u in (0..xs.len()).rev() {
+        backward_round(a, xs, u, t);
     }
 }
 
 // The solution for 1 at point u and 0 at the others.
-fn solution(xs: &[u8; 31], s: usize, u: usize, t: &[u8; 768]) -> [u8; 31]
-    requires { (t.now ≡ tables) × (s ≤ 31) × (u < s) }
-    ensures { result ≡ table 31 (interp s (at xs.now) (unit u)) }
+fn solution(xs: &[u8], u: usize, t: &Products) -> [u8; 31]
+    requires { (length xs.now ≤ 31) × (u < length xs.now) }
+    ensures { Same 31 (at result) (interp (length xs.now) (at xs.now) (unit u)) }
 {
-    let mut ys = [0u8; 31];
-    ys[u] = 1;
-    forward(&mut ys, xs, s, t);
-    backward(&mut ys, xs, s, t);
-    ys
+    let mut a = [0u8; 31];
+    a[u] = 1;
+    let row = &mut a[..xs.len()];
+    forward(row, xs, t);
+    backward(row, xs, t);
+    a
 }
 
 // The solutions for the unit vectors: row u, cut to s entries, solves for 1 at point u and 0 at the others.
@@ -91,9 +72,9 @@ pub fn basis(xs: [u8; 31], s: usize) -> [[u8; 31]; 31]
     if s > 31 {
         return rows;
     }
-    let t = field::tables();
+    let t = Products::new();
     for u in 0..s {
-        rows[u] = solution(&xs, s, u, &t);
+        rows[u] = solution(&xs[..s], u, &t);
     }
     rows
 }

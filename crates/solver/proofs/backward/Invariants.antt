@@ -1,12 +1,9 @@
 -- `solver::backward` meets its contract: round by round, from the last to the first.
-use Prim.Native.Nat.{◌≤◌}
+use Rattle.std.proofs.Common.{length}
 use Rattle.algebra.specs.Levels.{Backward}
 use Rattle.algebra.specs.Bytes.{at}
 use Rattle.solver.specs.Passes.{Moves}
 use Rattle.solver.proofs.backward.Given as goal
 
 abbrev pub invariant-loop-u : goal.invariant-loop-u
-invariant-loop-u l = (l.u ≤ l.s) × Moves l.s (Backward l.s l.s (at l.xs)) (Backward l.s l.u (at l.xs)) l.initial.a l.a
-
-abbrev pub decreases-loop-u : goal.decreases-loop-u
-decreases-loop-u l = l.u
+invariant-loop-u l = let s = length l.xs in Moves (Backward s s (at l.xs)) (Backward s l.u (at l.xs)) l.initial.a l.a

@@ -1,45 +1,53 @@
 -- `solver::solution` meets its contract: the row of the unit vector is ready for the forward pass, that pass leaves it ready for the
 -- backward pass, and that one leaves the coefficients.
-use mathlib.Core.Path.{◌≡◌, ◌∙◌, refl, sym, ap}
+use Rattle.std.proofs.Common.{rules, ◌≡◌, ◌∙◌, ◌-◌, ◌<◌, ◌≤◌, ◌++◌, ℕ, List, length, take, drop, sym, ap, arith}
+use Rattle.std.proofs.Math.ListN.{set, replicate, length-replicate, get_or-replicate}
 use mathlib.Core.Logic.{by_cases}
-use mathlib.Core.List.{List}
-use Prim.Native.Nat.{ℕ, ◌≤◌, ◌<◌}
 use native.Mathlib.Decide.{dec_lt, ℕ_discrete}
-use native.Mathlib.Omega.{arith}
-use lib.ListN.{set, replicate}
-use borrow.Author.Rules.{rules}
-use Rattle.algebra.specs.Symbol.{F, 𝟘, 𝟙}
+use Rattle.std.proofs.lemmas.List.{length-take-le, get_or-take, get_or-drop, get_or_append_left, get_or-append_right}
+use Rattle.algebra.specs.Symbol.{symbol, 𝟘, 𝟙}
 use Rattle.algebra.specs.Sums.{Vec, unit}
 use Rattle.algebra.specs.Poly.{interp}
 use Rattle.algebra.specs.Levels.{Forward, Backward}
-use Rattle.algebra.specs.Bytes.{table}
-use Rattle.algebra.proofs.Ring.{val-symbol}
+use Rattle.algebra.specs.Bytes.{at}
+use Rattle.algebra.proofs.Ring.{symbol-val}
 use Rattle.algebra.proofs.Sums.{unit-self, unit-other}
 use Rattle.algebra.proofs.Poly.{interp-past}
 use Rattle.algebra.proofs.Levels.{forward-start, turn, in_place}
-use Rattle.algebra.proofs.Bytes.{table-ext}
-use Rattle.solver.specs.Passes.{Row}
-use Rattle.solver.proofs.Passes.{row_zero, row-then, row-store}
+use Rattle.algebra.proofs.Bytes.{at_set, at_set_other}
 use Rattle.solver.proofs.solution.Goals as goal
 
-start : (s u : ℕ) (xs : Vec) → u < s → s ≤ 31 → Row s (Forward s 0 xs (unit u)) (set (replicate 31 0) u 1)
-unfolding 𝟙
-start s u xs h l =
-    row-store (row_zero s) u 𝟙 refl h l
-    (λ B n o z. forward-start xs (unit u) (λ i k. by_cases (ℕ_discrete i u)
-    (λ c. ap B c ∙ n ∙ sym (ap (unit u) c ∙ unit-self u))
-    (λ c. o i c ∙ z i ∙ sym (unit-other u i (λ e. c (sym e))))))
+module _ (s u : ℕ) (xs : Vec) (h : u < s) (l : s ≤ 31) where
+  -- the array: 1 at place u, and 0 at each other
+  abbrev one : List ℕ
+  one = set (replicate 31 0) u 1
 
-end : (s : ℕ) (xs ys : Vec) (r : List ℕ) → Row s (Backward s 0 xs ys) r → r ≡ table 31 (interp s xs ys)
-unfolding 𝟘
-end s xs ys r w =
-    table-ext 31 (interp s xs ys) r w.long (λ i h. by_cases (dec_lt i s)
-    (λ k. sym (val-symbol (w.bytes i)) ∙ ap (λ (a : F). a.val) (in_place xs ys w.state i k))
-    (λ n. w.clear i (omega arith) ∙ sym (ap (λ (a : F). a.val) (interp-past s xs ys i (omega arith)))))
+  at_one : (i : ℕ) → i < 31 → at one i ≡ unit u i
+  unfolding 𝟘 𝟙
+  at_one i k =
+      by_cases (ℕ_discrete i u)
+      (λ c. ap (at one) c ∙ at_set (replicate 31 0) u 1 (omega (arith, length-replicate {A = ℕ} 31 0)) ∙ symbol-val 𝟙 ∙ sym (ap (unit u) c ∙ unit-self u))
+      (λ c. at_set_other (replicate 31 0) u 1 i c ∙ ap symbol (get_or-replicate 31 i 0 0 k) ∙ symbol-val 𝟘 ∙ sym (unit-other u i (λ e. c (sym e))))
+
+  start : Forward s 0 xs (unit u) (at (take s one))
+  start = forward-start xs (unit u) (λ i k. ap symbol (get_or-take s one i 0 k) ∙ at_one i (omega arith))
+
+  -- the coefficients r stand before what the passes left alone
+  end : (r : List ℕ) → length r ≡ s → Backward s 0 xs (unit u) (at r) → (i : ℕ) → i < 31 → at (r ++ drop s one) i ≡ interp s xs (unit u) i
+  end r e w i k =
+      by_cases (dec_lt i s)
+      (λ b. ap symbol (get_or_append_left r (drop s one) 0 i (omega arith)) ∙ in_place xs (unit u) w i b)
+      (λ b. ap symbol (get_or-append_right r (drop s one) s i 0 e (omega arith) ∙ get_or-drop s one (i - s) 0)
+      ∙ ap (at one) (omega arith) ∙ at_one i k ∙ unit-other u i (λ e. omega arith) ∙ sym (interp-past s xs (unit u) i (omega arith)))
+
+pub backward-requires : goal.backward-requires
+backward-requires c = c.forward.auto.a ∙ length-take-le _ _ (search rules)
 
 pub returns : goal.returns
 returns c =
-    let s = c.args in
-    end s.s _ (unit s.u) _ (c.backward.ensures (unit s.u) (row-then
-    (c.forward.ensures (unit s.u) (start s.s s.u _ (search rules) (search rules)))
-    (turn _ (unit s.u))))
+    let u = c.args.u in
+    let s = length c.args.xs.now in
+    let h : u < s = search rules in
+    let l : s ≤ 31 = search rules in
+    end s u _ h l _ (c.backward.auto.a ∙ c.forward.auto.a ∙ length-take-le _ _ (search rules))
+    (c.backward.ensures (unit u) (turn _ (unit u) (c.forward.ensures (unit u) (start s u _ h l))))
