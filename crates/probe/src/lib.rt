@@ -9,20 +9,17 @@ use field::Symbol;
 pub fn corkpaddle_product(a: u8, b: u8) -> u8
     ensures { result ≡ mul a b }
 {
-    let p = Symbol::of(a).times(Symbol::of(b));
-    p.0
+    Symbol::of(a).times(Symbol::of(b)).0
 }
 
 pub fn corkpaddle_quotient(a: u8, b: u8) -> u8
     ensures { result ≡ quotient a b }
 {
-    let q = Symbol::of(a).over(Symbol::of(b));
-    q.0
+    Symbol::of(a).over(Symbol::of(b)).0
 }
 
 pub fn corkpaddle_power(a: u8, n: usize) -> u8
     ensures { result ≡ pow a n }
 {
-    let p = Symbol::of(a).power(n);
-    p.0
+    Symbol::of(a).power(n).0
 }
