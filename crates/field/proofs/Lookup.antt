@@ -2,7 +2,6 @@
 -- Assumes nothing.
 use mathlib.Core.Path.{◌≡◌, ◌∙◌, refl, sym, ap, ap₂}
 use mathlib.Core.Logic.{◌≢◌}
-use mathlib.Core.List.{List}
 use Prim.Native.Nat.{ℕ, zero, suc, ◌+◌, ◌-◌, ◌*◌, ◌%◌, ◌<◌, ◌≤◌}
 use native.Mathlib.Nat.{mod-lt, zero-lt-suc, sub-add_cancel}
 use native.Mathlib.Omega.{arith}
@@ -70,46 +69,25 @@ module _ (a b : ℕ) (ha : a < 256) (hb : b < 256) where
 
 -- ---- by any table: 0 where a number is 0, else what stands at the place
 
-unless-right : (a v : ℕ) → unless_zero a 0 v ≡ 0
+pub unless-left : (b v : ℕ) → unless_zero 0 b v ≡ 0
+unfolding unless_zero
+unless-left b v = refl
+
+pub unless-right : (a v : ℕ) → unless_zero a 0 v ≡ 0
 unfolding unless_zero
 unless-right zero v = refl
 unless-right (suc a) v = refl
 
-unless-neither : (a b v : ℕ) → a ≢ 0 → b ≢ 0 → unless_zero a b v ≡ v
+pub unless-neither : (a b v : ℕ) → a ≢ 0 → b ≢ 0 → unless_zero a b v ≡ v
 unfolding unless_zero
 unless-neither zero b v n m = absurd (n refl)
 unless-neither (suc a) zero v n m = absurd (m refl)
 unless-neither (suc a) (suc b) v n m = refl
 
-module _ (t : List ℕ) where
-  pub zero-by : (b : ℕ) → by_table t 0 b ≡ 0
-  unfolding by_table unless_zero
-  zero-by b = refl
-
-  pub by_zero : (a : ℕ) → by_table t a 0 ≡ 0
-  unfolding by_table
-  by_zero a = unless-right a (get_or t (256 + (get_or t a 0 + get_or t 0 0)) 0)
-
-  pub by-entry : (a b : ℕ) → a ≢ 0 → b ≢ 0 → by_table t a b ≡ get_or t (256 + (get_or t a 0 + get_or t b 0)) 0
-  unfolding by_table
-  by-entry a b = unless-neither a b (get_or t (256 + (get_or t a 0 + get_or t b 0)) 0)
-
-  pub zero-over : (b : ℕ) → over_table t 0 b ≡ 0
-  unfolding over_table unless_zero
-  zero-over b = refl
-
-  pub over_zero : (a : ℕ) → over_table t a 0 ≡ 0
-  unfolding over_table
-  over_zero a = unless-right a (get_or t (256 + (get_or t a 0 + 255 - get_or t 0 0)) 0)
-
-  pub over-entry : (a b : ℕ) → a ≢ 0 → b ≢ 0 → over_table t a b ≡ get_or t (256 + (get_or t a 0 + 255 - get_or t b 0)) 0
-  unfolding over_table
-  over-entry a b = unless-neither a b (get_or t (256 + (get_or t a 0 + 255 - get_or t b 0)) 0)
-
 -- ---- what a function that looks rests on: by logarithms, by any table, by the right one
 
 pub ruleset by_logarithms = (zero-times, times_zero, mul-logs, zero-quotient, quotient-zero, quotient-logs, pow-zero, zero-pow, pow-logs, generator-mod)
 
-pub ruleset by_a_table = (zero-by, by_zero, by-entry, zero-over, over_zero, over-entry)
+pub ruleset by_a_table = (unless-left, unless-right, unless-neither)
 
 pub ruleset by_the_table = (by-tables, over-tables)

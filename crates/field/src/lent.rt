@@ -9,7 +9,7 @@ use crate::logs::LOGS;
 
 impl Symbol {
     // The product as a lent table has it; by `tables()` it is `times`.
-    #[tactic(auto, using(crate::proofs::Lookup::by_a_table))]
+    #[tactic(auto, using(crate::proofs::Lookup::by_a_table), unfolding(crate::specs::Tables::by_table))]
     pub fn times_by(self, b: Symbol, t: &[u8; 768]) -> Symbol
         ensures { result.0 ≡ by_table t.now self.0 b.0 }
     {
@@ -20,7 +20,7 @@ impl Symbol {
     }
 
     // The quotient as a lent table has it; by `tables()` it is `over`.
-    #[tactic(auto, using(crate::proofs::Lookup::by_a_table))]
+    #[tactic(auto, using(crate::proofs::Lookup::by_a_table), unfolding(crate::specs::Tables::over_table))]
     pub fn over_by(self, divisor: Symbol, t: &[u8; 768]) -> Symbol
         ensures { result.0 ≡ over_table t.now self.0 divisor.0 }
     {
