@@ -90,3 +90,6 @@ module _ (xs : List ℕ) (s : ℕ) where
         → dot s (pow (at xs t)) (λ i. dot s ys (λ u. symbol (entry (basis_of xs s) u i))) ≡ ys t
     basis-solves d ys t h =
         dot-same s (λ i k. refl) (λ i k. basis-any ys i k) ∙ (frame-powers s (at xs) d).solves ys t h
+
+-- what `basis` rests on before its loop, after it, and where it has none
+pub ruleset basis_steps = (basis-none, basis-all, basis-refused)

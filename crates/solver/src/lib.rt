@@ -65,6 +65,8 @@ fn solution(xs: &[u8], u: usize, t: &Products) -> [u8; 31]
 }
 
 // The solutions for the unit vectors: row u, cut to s entries, solves for 1 at point u and 0 at the others.
+// Stays: a buffer with a count beside it, since this public signature and its promise may not change.
+#[tactic(auto, using(crate::proofs::Solutions::basis_steps))]
 pub fn basis(xs: [u8; 31], s: usize) -> [[u8; 31]; 31]
     ensures { result ≡ basis_of xs s }
 {
