@@ -26,24 +26,18 @@ pub fn read_at(file: &[u8], place: usize) -> Result<Found, NoRecord>
     ensures answer { result ≡ read_at file.now place }
     ensures told { told result ≡ told_at file.now place }
 {
-    if place >= file.len() {
-        return Err(NoRecord { place });
-    }
-    let length = body_of(file[place]);
-    if length == 0 {
-        return Err(NoRecord { place });
-    }
+    let kind = *file.get(place).ok_or(NoRecord { place })?;
+    let length = body_of(kind);
     let start = place + 1;
-    if length <= file.len() - start {
-        let end = start + length;
-        Ok(Found {
-            start,
-            end,
-            next: end,
-        })
-    } else {
-        Err(NoRecord { place })
+    if length == 0 || length > file.len() - start {
+        return Err(NoRecord { place });
     }
+    let end = start + length;
+    Ok(Found {
+        start,
+        end,
+        next: end,
+    })
 }
 
 // The record at a place, where its kind is the one expected there.
@@ -62,11 +56,5 @@ pub fn read_as(file: &[u8], place: usize, kind: u8) -> Result<Found, NoRecord>
 pub fn body(file: &[u8], start: usize, end: usize) -> &[u8]
     ensures { result.now ≡ body_at file.now start end }
 {
-    if start > end {
-        return &file[..0];
-    }
-    if end > file.len() {
-        return &file[..0];
-    }
-    &file[start..end]
+    file.get(start..end).unwrap_or(&[])
 }

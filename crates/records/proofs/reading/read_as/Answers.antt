@@ -5,5 +5,5 @@ use Rattle.records.proofs.reading.read_as.Goals as goal
 
 pub bounds-file-place : goal.bounds-file-place
 bounds-file-place c =
-    let b = c.in-Body in
-    (read-inside c.args.file.now c.args.place b.start b.end b.next (sym b.ensures.answer)).inside
+    let f = c.in_ok-found.found in
+    (read-inside c.args.file.now c.args.place f.start f.end f.next (sym c.in_ok-found.ensures.answer)).inside
