@@ -1,42 +1,23 @@
 // Document 01's whole file, read record by record: for each record its kind, where its body starts and ends, and the next place;
 // then the refusal at the end. After it the same file cut by one byte, and with another kind byte.
 //
-// The program asks for each record by its number.
+// The program asks for each record by its number. A line that cannot be written is left out, and the program goes on.
 #![tactic(auto)]
 
-use records::reading::{Read, body};
+use records::reading::{Found, NoRecord, body};
 use records::writing::put;
 
-// Standard output.
-const STDOUT: i32 = 1;
-
-fn say(text: &[u8]) {
-    io::write_all(STDOUT, text);
-}
-
-fn say_number(label: &[u8], n: usize) {
-    say(label);
-    io::print_decimal(STDOUT, n as u64);
-}
-
-// One record, which stands at a place: its kind byte is what stands between the place and the body. The next place is given back.
-fn show(file: &[u8], n: usize, place: usize) -> usize {
-    say_number(b"record ", n);
-    let answer = readers::read_nth(file, n);
-    match answer {
-        Read::Body { start, end, next } => {
-            say(b": kind ");
-            say(body(file, place, start));
-            say_number(b", start ", start);
-            say_number(b", end ", end);
-            say_number(b", next ", next);
-            say(b"\n");
+// One record, which stands at a place: its kind byte is the one there. The next place is given back.
+fn show(rt: &impl Print, file: &[u8], n: usize, place: usize) -> usize {
+    match readers::read_nth(file, n) {
+        Ok(Found { start, end, next }) => {
+            let kind = char::from(file.get(place).copied().unwrap_or(0));
+            let _ = println!(rt; "record {n}: kind {kind}, start {start}, end {end}, next {next}");
             next
         }
-        Read::Refused { place: at } => {
-            say_number(b": refused at ", at);
-            say(b"\n");
-            at
+        Err(NoRecord { place }) => {
+            let _ = println!(rt; "record {n}: refused at {place}");
+            place
         }
     }
 }
@@ -50,35 +31,35 @@ fn worked() -> [u8; 79] {
     file
 }
 
-fn whole() {
+fn whole(rt: &impl Print) {
     let file = worked();
-    let first = show(&file, 0, 0);
-    let second = show(&file, 1, first);
-    let third = show(&file, 2, second);
-    show(&file, 3, third);
-    show(&file, 18446744073709551615, third);
+    let first = show(rt, &file, 0, 0);
+    let second = show(rt, &file, 1, first);
+    let third = show(rt, &file, 2, second);
+    show(rt, &file, 3, third);
+    show(rt, &file, usize::MAX, third);
 }
 
-fn cut() {
-    say(b"cut by one byte\n");
+fn cut(rt: &impl Print) {
+    let _ = println!(rt; "cut by one byte");
     let file = worked();
     let part = body(&file, 0, 78);
-    show(part, 1, 37);
-    show(part, 2, 45);
-    show(part, 3, 45);
+    show(rt, part, 1, 37);
+    show(rt, part, 2, 45);
+    show(rt, part, 3, 45);
 }
 
-fn other_kind() {
-    say(b"the second kind byte another\n");
+fn other_kind(rt: &impl Print) {
+    let _ = println!(rt; "the second kind byte another");
     let mut file = worked();
     file[37] = 79;
-    show(&file, 0, 0);
-    show(&file, 1, 37);
-    show(&file, 2, 37);
+    show(rt, &file, 0, 0);
+    show(rt, &file, 1, 37);
+    show(rt, &file, 2, 37);
 }
 
-fn main() {
-    whole();
-    cut();
-    other_kind();
+fn main(rt: HostRuntime) {
+    whole(&rt);
+    cut(&rt);
+    other_kind(&rt);
 }
