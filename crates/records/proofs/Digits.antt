@@ -1,15 +1,13 @@
 -- The laws of numbers in records, each over the width in bytes.
 --
---     number-none, number_more    no byte, and one byte more
---     small-more, small-most      one byte more below its bound, and a bound of at most three bytes
 --     number_small                a number of bytes is below its bound
 --     length_digits               a number's bytes are as many as the width
 --     number_digits               the number of a number's bytes, wherever they stand, is that number
 --     digits_number               the bytes of the number of some bytes are those bytes
 use mathlib.Core.List.{List, [], ◌∷◌, ◌++◌, append_assoc}
 use mathlib.Core.Path.{◌≡◌, refl, sym, ap, ◌∙◌}
-use Prim.Native.Nat.{ℕ, zero, suc, ◌+◌, ◌*◌, ◌/◌, ◌%◌, ◌^◌, ◌<◌, ◌≤◌}
-use native.Mathlib.Nat.{pow-suc, pow-le-pow_right, one-le-pow}
+use Prim.Native.Nat.{ℕ, zero, suc, ◌+◌, ◌/◌, ◌%◌, ◌^◌, ◌<◌, ◌≤◌}
+use native.Mathlib.Nat.{pow-suc, one-le-pow}
 use native.Mathlib.Numerals.{add-one}
 use native.Mathlib.Omega.{arith}
 use lib.Arith.{digits_lt, digits_div, digits_mod, mod-mul}
@@ -17,20 +15,6 @@ use lib.Dec.{lit<}
 use lib.ListN.{length, get_or, take, drop, length-append, length-drop}
 use lib.Seq.{get_or_at, take-suc, get_or-drop}
 use Rattle.records.specs.Numbers.{number_at, digits}
-
-pub number-none : (s : List ℕ) (at : ℕ) → number_at 0 s at ≡ 0
-unfolding number_at
-number-none s at = refl
-
-pub number_more : (width : ℕ) (s : List ℕ) (at : ℕ) → number_at (width + 1) s at ≡ number_at width s at * 256 + get_or s (at + width) 0
-unfolding number_at
-number_more width s at = rw (add-one, number_at)
-
-pub small-more : (width n byte : ℕ) → n < 256 ^ width → byte < 256 → n * 256 + byte < 256 ^ (width + 1)
-small-more width n byte h b = rw (add-one, pow-suc) (digits_lt h b)
-
-pub small-most : (width n : ℕ) → width ≤ 3 → n < 256 ^ width → n < 16777216
-small-most width n w h = omega (arith, pow-le-pow_right {n = 256} (lit< tt) w)
 
 module _ (s : List ℕ) (bytes : (i : ℕ) → get_or s i 0 < 256) where
   pub number_small : (width at : ℕ) → number_at width s at < 256 ^ width

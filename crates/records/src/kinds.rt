@@ -2,6 +2,7 @@
 ghost use Rattle.std.specs.Prelude.{◌≡◌};
 ghost use Rattle.records.specs.Kinds.{body_of};
 
+// Stays: a kind is a byte of a file, of which any may stand there: compared and written, and branched on in body_of alone.
 pub const CODE: u8 = 0x43;
 
 pub const NODE: u8 = 0x4E;

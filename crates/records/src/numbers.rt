@@ -1,67 +1,47 @@
 // Numbers in records: big-endian, of 2 or 4 bytes. A byte past the end counts 0.
-ghost use Rattle.std.specs.Prelude.{◌≡◌, ◌+◌, ◌^◌, ◌≤◌, ◌<◌, get_or};
+ghost use Rattle.std.specs.Prelude.{◌≡◌, get_or, drop};
 ghost use Rattle.records.specs.Numbers.{number_at, digits};
 
-// The byte that stands i after a place.
-fn byte_after(s: &[u8], at: usize, i: usize) -> u8
-    ensures { result ≡ get_or s.now (at + i) 0 }
+// What stands from a place on: nothing where it is past the end.
+fn rest_from(s: &[u8], at: usize) -> &[u8]
+    ensures { result.now ≡ drop at s.now }
 {
-    if at >= s.len() {
-        return 0;
-    }
-    if i >= s.len() - at {
-        return 0;
-    }
-    s[at + i]
+    s.get(at..).unwrap_or(&[])
 }
 
-// The number of `width` bytes at a place.
-fn number(s: &[u8], at: usize, width: usize) -> u32
-    requires { width ≤ 4 }
-    ensures value { result ≡ number_at width s.now at }
-    ensures small { result < 256 ^ width }
+// The byte at a place.
+fn byte(s: &[u8], at: usize) -> u8
+    ensures { result ≡ get_or s.now at 0 }
 {
-    let mut n: u32 = 0;
-    let mut i: usize = 0;
-    while i < width {
-        let byte = byte_after(s, at, i) as u32;
-        n = n * 256 + byte;
-        i += 1;
-    }
-    n
+    s.get(at).copied().unwrap_or(0)
 }
 
+#[tactic(auto, unfolding(crate::specs::Numbers::number_at))]
 pub fn number2(s: &[u8], at: usize) -> u16
     ensures { result ≡ number_at 2 s.now at }
 {
-    number(s, at, 2) as u16
+    let rest = rest_from(s, at);
+    u16::from_be_bytes([byte(rest, 0), byte(rest, 1)])
 }
 
+#[tactic(auto, unfolding(crate::specs::Numbers::number_at))]
 pub fn number4(s: &[u8], at: usize) -> u32
     ensures { result ≡ number_at 4 s.now at }
 {
-    number(s, at, 4)
+    let rest = rest_from(s, at);
+    u32::from_be_bytes([byte(rest, 0), byte(rest, 1), byte(rest, 2), byte(rest, 3)])
 }
 
 #[tactic(auto, unfolding(crate::specs::Numbers::digits))]
 pub fn bytes2(n: u16) -> [u8; 2]
     ensures { result ≡ digits 2 n }
 {
-    let high = n / 256;
-    [(high % 256) as u8, (n % 256) as u8]
+    u16::to_be_bytes(n)
 }
 
 #[tactic(auto, unfolding(crate::specs::Numbers::digits))]
 pub fn bytes4(n: u32) -> [u8; 4]
     ensures { result ≡ digits 4 n }
 {
-    let third = n / 256;
-    let second = third / 256;
-    let first = second / 256;
-    [
-        (first % 256) as u8,
-        (second % 256) as u8,
-        (third % 256) as u8,
-        (n % 256) as u8,
-    ]
+    u32::to_be_bytes(n)
 }

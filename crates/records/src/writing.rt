@@ -7,16 +7,9 @@ pub fn put(out: &mut [u8], at: usize, bytes: &[u8]) -> bool
     ensures answer { result ≡ fits out.old at bytes.now }
     ensures left { out.new ≡ put_at out.old at bytes.now }
 {
-    if at > out.len() {
+    if at > out.len() || bytes.len() > out.len() - at {
         return false;
     }
-    if bytes.len() > out.len() - at {
-        return false;
-    }
-    let mut i: usize = 0;
-    while i < bytes.len() {
-        out[at + i] = bytes[i];
-        i += 1;
-    }
+    out[at..at + bytes.len()].copy_from_slice(bytes);
     true
 }
