@@ -2,6 +2,8 @@
 ghost use Rattle.std.specs.Prelude.{◌≡◌, get_or, drop};
 ghost use Rattle.records.specs.Numbers.{number_at, digits};
 
+use std::array::from_fn;
+
 // What stands from a place on: nothing where it is past the end.
 fn rest_from(s: &[u8], at: usize) -> &[u8]
     ensures { result.now ≡ drop at s.now }
@@ -21,7 +23,7 @@ pub fn number2(s: &[u8], at: usize) -> u16
     ensures { result ≡ number_at 2 s.now at }
 {
     let rest = rest_from(s, at);
-    u16::from_be_bytes([byte(rest, 0), byte(rest, 1)])
+    u16::from_be_bytes(from_fn(|i| byte(rest, i)))
 }
 
 #[tactic(auto, unfolding(crate::specs::Numbers::number_at))]
@@ -29,7 +31,7 @@ pub fn number4(s: &[u8], at: usize) -> u32
     ensures { result ≡ number_at 4 s.now at }
 {
     let rest = rest_from(s, at);
-    u32::from_be_bytes([byte(rest, 0), byte(rest, 1), byte(rest, 2), byte(rest, 3)])
+    u32::from_be_bytes(from_fn(|i| byte(rest, i)))
 }
 
 #[tactic(auto, unfolding(crate::specs::Numbers::digits))]
