@@ -6,6 +6,7 @@
 
 use records::reading::{Found, NoRecord, body};
 use records::writing::put;
+use std::ops::Range;
 
 // One record, which stands at a place: its kind byte is the one there. The next place is given back.
 fn show(rt: &impl Print, file: &[u8], n: usize, place: usize) -> usize {
@@ -22,6 +23,15 @@ fn show(rt: &impl Print, file: &[u8], n: usize, place: usize) -> usize {
     }
 }
 
+// The records with those numbers, the first of which stands at a place. The place after the last is given back.
+fn show_all(rt: &impl Print, file: &[u8], numbers: Range<usize>, start: usize) -> usize {
+    let mut place = start;
+    for n in numbers {
+        place = show(rt, file, n, place);
+    }
+    place
+}
+
 // Code A, node 2, one stripe, count 0.
 fn worked() -> [u8; 79] {
     let mut file = [0u8; 79];
@@ -33,29 +43,21 @@ fn worked() -> [u8; 79] {
 
 fn whole(rt: &impl Print) {
     let file = worked();
-    let first = show(rt, &file, 0, 0);
-    let second = show(rt, &file, 1, first);
-    let third = show(rt, &file, 2, second);
-    show(rt, &file, 3, third);
-    show(rt, &file, usize::MAX, third);
+    let end = show_all(rt, &file, 0..4, 0);
+    show(rt, &file, usize::MAX, end);
 }
 
 fn cut(rt: &impl Print) {
     let _ = println!(rt; "cut by one byte");
     let file = worked();
-    let part = body(&file, 0, 78);
-    show(rt, part, 1, 37);
-    show(rt, part, 2, 45);
-    show(rt, part, 3, 45);
+    show_all(rt, body(&file, 0, 78), 1..4, 37);
 }
 
 fn other_kind(rt: &impl Print) {
     let _ = println!(rt; "the second kind byte another");
     let mut file = worked();
     file[37] = 79;
-    show(rt, &file, 0, 0);
-    show(rt, &file, 1, 37);
-    show(rt, &file, 2, 37);
+    show_all(rt, &file, 0..3, 0);
 }
 
 fn main(rt: HostRuntime) {
