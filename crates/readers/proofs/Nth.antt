@@ -56,7 +56,9 @@ module _ {file : List ℕ} {n i : ℕ} {reader : Reader} (w : Way file n i reade
   way_more f next a m =
       record {
         of_file = ap (λ (r : Reader). r.file.now) m ∙ w.of_file;
-        asked = λ left e. ap (λ (r : Reader). nth_from left file r.place) m ∙ ap (λ (r : Read). nth_from left file (place_after r)) a ∙ further (Ok f) left a (omega arith);
+        asked = λ left e.
+            let at : next.place ≡ f.next = ap (λ (r : Reader). r.place) m ∙ ap place_after a in
+            ap (λ (place : ℕ). nth_from left file place) at ∙ further (Ok f) left a (omega arith);
       }
 
   pub way_refused : (e : NoRecord) → i < n → answer_of reader ≡ Err e → IsNth file n (Err e)
