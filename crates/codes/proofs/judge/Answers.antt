@@ -9,7 +9,7 @@ use Rattle.codes.specs.Told.{Told, ◌when◌, refused, answered}
 use Rattle.codes.specs.Judge.{known, sized, marks, pointed, pair_of, pair_in, judge_reasons, judged}
 use Rattle.codes.specs.declared.Code.{Code}
 use Rattle.codes.specs.declared.Refusal.TheVariants.{Kind, Size}
-use Rattle.codes.proofs.Told.{refused-first, answered-skip}
+use Rattle.codes.proofs.Told.{refused-first, answered-skip, handed-on}
 use Rattle.codes.proofs.Rules.{rules}
 use Rattle.codes.proofs.Tests.{sized-only}
 use Rattle.codes.proofs.judge.Goals as goal
@@ -42,6 +42,20 @@ returns-then-not-is_sized-clause-answer c =
 pub judge_points-requires : goal.judge_points-requires
 judge_points-requires c = (sized-only _ (sym c.is_sized.ensures ∙ c.if-not-is_sized.false)).most
 
-
 pub returns-in_err-judge_points-clause-answer : goal.returns-in_err-judge_points-clause-answer
-returns-in_err-judge_points-clause-answer c = let z = c.from_residual.ensures in let y = c.in_err-judge_points in ?
+returns-in_err-judge_points-clause-answer c =
+    handed-on (λ _. 0) c.from_residual.result c.in_err-judge_points.field-0.0 c.from_residual.ensures.1
+    (points _ (ap not (sym c.is_known.ensures ∙ c.if-not-is_known.false)) _ _ (ap not (sym c.is_sized.ensures ∙ c.if-not-is_sized.false)) c.marks_of.ensures
+    c.in_err-judge_points.ensures)
+
+pub invariant_of-result : goal.invariant_of-result
+invariant_of-result c = record {
+  rules = rules _
+      (sym (points _ (ap not (sym c.is_known.ensures ∙ c.if-not-is_known.false)) _ _ (ap not (sym c.is_sized.ensures ∙ c.if-not-is_sized.false)) c.marks_of.ensures
+      c.in_ok-judge_points.ensures));
+}
+
+pub returns-clause-answer : goal.returns-clause-answer
+returns-clause-answer c =
+    points _ (ap not (sym c.is_known.ensures ∙ c.if-not-is_known.false)) _ _ (ap not (sym c.is_sized.ensures ∙ c.if-not-is_sized.false)) c.marks_of.ensures
+    c.in_ok-judge_points.ensures
