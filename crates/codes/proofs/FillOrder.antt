@@ -1,6 +1,7 @@
 -- Where a message's symbol stands, as the code finds it: along a triangle row by row, then in the parts of the matrix.
 --   up-here, up_next     the place b of a triangle stands in its first row, or in the triangle without that row
---   up-row-none, up-col-none     a triangle without rows
+--   up-none              in a triangle without rows
+--   rows                 the first two, for a walk along the rows
 --   cell-s, cell-t, cell-s1, cell-s2     the cell of a symbol of S, T, S1 and S2
 -- Assumes nothing.
 use mathlib.Core.Path.{◌≡◌, refl}
@@ -26,13 +27,12 @@ up_next (suc w) b z h =
     let f : suc w - 1 ≡ w = omega arith in
     (simp (e, f, add-one), simp (e, f, add-one))
 
-pub up-row-none : (b : ℕ) → up_row 0 b ≡ 0
-unfolding up_row
-up-row-none b = refl
+pub up-none : (w b : ℕ) → w ≡ 0 → (up_row w b ≡ 0) × (up_col w b ≡ 0)
+unfolding up_row up_col
+up-none zero b e = (refl, refl)
+up-none (suc w) b e = absurd (omega arith)
 
-pub up-col-none : (b : ℕ) → up_col 0 b ≡ 0
-unfolding up_col
-up-col-none b = refl
+pub ruleset rows = (up-here, up_next)
 
 -- a cell in the triangle of a lane, and one in T
 abbrev pub Up : Code → ℕ → ℕ → ℕ → ℕ → Type 0

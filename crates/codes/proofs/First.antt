@@ -54,3 +54,6 @@ module _ (p : ℕ → Bool) where
   first-at (suc n) i h =
       by-test (p i) (λ e. ap p (stop n i e) ∙ e)
       (λ e. ap p (skip n i e) ∙ first-at n (i + 1) (omega (arith, skip n i e)))
+
+-- one turn of a search, and its end
+pub ruleset searches = (first_more, first-here, first-none)

@@ -4,6 +4,7 @@
 pub mod Bools
 pub mod First
 pub mod Symbols
+pub mod Arrays
 pub mod Told
 pub mod Tests
 pub mod Pairs

@@ -1,6 +1,6 @@
 -- That a kind is known has at most one proof. So a struct's ghost field may say it.
 -- Assumes nothing.
-use Rattle.std.specs.Prelude.{◌≡◌, ◌⊎◌, ℕ}
+use Rattle.std.specs.Prelude.{ℕ}
 use Rattle.std.proofs.Common.{arith, ap, inl, inr}
 use Rattle.std.proofs.Math.Nat.{ℕ_set}
 use Rattle.codes.specs.Rules.{Known}

@@ -4,40 +4,34 @@ ghost use Rattle.codes.specs.Body.{symbols_at, code_at};
 
 use crate::Code;
 use field::Symbol;
+use std::array;
 
 // The byte that stands i after a place.
 fn byte_after(s: &[u8], at: usize, i: usize) -> u8
     ensures { result ≡ get_or s.now (at + i) 0 }
 {
-    if at >= s.len() {
-        return 0;
-    }
-    if i >= s.len() - at {
-        return 0;
-    }
-    s[at + i]
+    s.get(at..)
+        .and_then(|rest| rest.get(i))
+        .copied()
+        .unwrap_or(0)
 }
 
 fn points_at(s: &[u8], at: usize) -> [Symbol; 32]
     ensures { result ≡ symbols_at 32 s.now (at + 4) }
 {
-    let mut points = [Symbol(0); 32];
-    for i in 0..32 {
-        points[i] = Symbol::of(byte_after(s, at, 4 + i));
-    }
-    points
+    array::from_fn(|i| Symbol(byte_after(s, at, 4 + i)))
 }
 
 // The code at a place, which is any usize.
+#[tactic(auto, unfolding(crate::specs::Body::code_at))]
 pub fn code_at(s: &[u8], at: usize) -> Code
     ensures { result ≡ code_at s.now at }
 {
-    let points = points_at(s, at);
     Code {
         kind: byte_after(s, at, 0),
         n: byte_after(s, at, 1),
         k: byte_after(s, at, 2),
         d: byte_after(s, at, 3),
-        points,
+        points: points_at(s, at),
     }
 }

@@ -1,10 +1,10 @@
 // Where a message's symbol stands in the message matrix: the fill order read the other way.
-ghost use Rattle.std.specs.Prelude.{◌≡◌, ◌+◌, ◌-◌, ◌/◌, ◌%◌, ◌≤◌};
+ghost use Rattle.std.specs.Prelude.{◌≡◌, ◌+◌, ◌/◌, ◌%◌, ◌≤◌};
 ghost use Rattle.codes.specs.Places.{start, up_row, up_col};
 ghost use Rattle.codes.specs.Matrix.{lane, row_of, col_of};
 
 use crate::Code;
-use crate::limits::less;
+use crate::limits::MBR;
 
 // A place of the message matrix. The row is counted in its lane: lane 0 has the first alpha rows, lane 1 those below.
 #[derive(Clone, Copy)]
@@ -23,28 +23,26 @@ fn triangle_size(w: usize) -> usize
 }
 
 // The place b of an upper triangle of w rows, which are read one after the other.
+#[tactic(auto, using(crate::proofs::FillOrder::rows))]
 fn in_triangle(lane: usize, w: usize, b: usize) -> Cell
     ensures { (result.lane ≡ lane) × (result.row ≡ up_row w b) × (result.col ≡ up_col w b) }
 {
-    let mut wide = w;
     let mut left = b;
-    let mut row: usize = 0;
-    while wide > 0 {
+    for row in 0..w {
+        let wide = w - row;
         if left < wide {
             return Cell {
-                lane: lane,
-                row: row,
+                lane,
+                row,
                 col: row + left,
             };
         }
         left -= wide;
-        wide -= 1;
-        row += 1;
     }
     Cell {
-        lane: lane,
-        row: row,
-        col: row,
+        lane,
+        row: w,
+        col: w,
     }
 }
 
@@ -53,17 +51,11 @@ fn beside(k: usize, w: usize, b: usize) -> Cell
     requires { (k ≤ 255) × (b ≤ 65535) }
     ensures { (result.lane ≡ 0) × (result.row ≡ b / w) × (result.col ≡ k + b % w) }
 {
-    if w == 0 {
-        return Cell {
-            lane: 0,
-            row: 0,
-            col: k + b,
-        };
-    }
+    let (row, col) = if w == 0 { (0, b) } else { (b / w, b % w) };
     Cell {
         lane: 0,
-        row: b / w,
-        col: k + b % w,
+        row,
+        col: k + col,
     }
 }
 
@@ -72,20 +64,21 @@ impl Code {
     pub fn cell(self, b: u16) -> Cell
         ensures { (result.lane ≡ lane self b) × (result.row ≡ row_of self b) × (result.col ≡ col_of self b) }
     {
-        let at = b as usize;
-        let k = self.k as usize;
-        if self.kind == 1 {
+        let at = usize::from(b);
+        let k = usize::from(self.k);
+        if self.kind == MBR {
             let s = triangle_size(k);
             if at < s {
                 return in_triangle(0, k, at);
             }
-            return beside(k, less(self.d, self.k), at - s);
+            return beside(k, usize::from(self.d).saturating_sub(k), at - s);
         }
-        let w = less(self.k, 1);
+        let w = k.saturating_sub(1);
         let s = triangle_size(w);
         if at < s {
-            return in_triangle(0, w, at);
+            in_triangle(0, w, at)
+        } else {
+            in_triangle(1, w, at - s)
         }
-        in_triangle(1, w, at - s)
     }
 }

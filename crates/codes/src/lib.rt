@@ -7,6 +7,8 @@ ghost use Rattle.codes.specs.Sizes.{alpha, bytes, none};
 ghost use Rattle.codes.specs.Judge.{judged, say_judged};
 
 use field::Symbol;
+use std::error::Error;
+use std::fmt;
 
 mod accepted; // accepted.rt: a code that the judge accepted
 mod body; // body.rt: a code read off the body of its C record
@@ -17,9 +19,9 @@ mod points; // points.rt: the first offending pair of points, and unused points
 pub use accepted::Accepted;
 pub use body::code_at;
 pub use cells::Cell;
-use limits::less;
+use limits::MBR;
 pub use limits::{is_known, is_sized};
-use points::{judge_points, marks_of, point_in};
+use points::judge_points;
 
 // A station's number, from 1. It cannot be multiplied, and a symbol cannot stand for it.
 #[derive(Clone, Copy, PartialEq, Eq)]
@@ -28,6 +30,7 @@ pub struct Node(pub u8);
 // A code: its kind, the numbers n, k and d, and 32 places for points, of which the first n count.
 #[derive(Clone, Copy)]
 pub struct Code {
+    // Stays: the byte of a C record, any byte may stand there, and alpha, bytes, cell and mark answer for all of them. The judge refuses what is no kind.
     pub kind: u8,
     pub n: u8,
     pub k: u8,
@@ -36,7 +39,7 @@ pub struct Code {
 }
 
 // Document 01's refusals, by its names. Points names the first offending pair of places.
-#[derive(Clone, Copy, PartialEq, Eq)]
+#[derive(Clone, Copy, Debug, PartialEq, Eq)]
 pub enum Refusal {
     Record,
     Kind,
@@ -59,10 +62,7 @@ impl Refusal {
             Refusal::Record => 1,
             Refusal::Kind => 2,
             Refusal::Size => 3,
-            Refusal::Points {
-                first: _,
-                second: _,
-            } => 4,
+            Refusal::Points { .. } => 4,
             Refusal::Length => 5,
             Refusal::Node => 6,
             Refusal::Repeat => 7,
@@ -77,16 +77,8 @@ impl Refusal {
         ensures { result ≡ first_of self }
     {
         match self {
-            Refusal::Record => 0,
-            Refusal::Kind => 0,
-            Refusal::Size => 0,
-            Refusal::Points { first, second: _ } => first,
-            Refusal::Length => 0,
-            Refusal::Node => 0,
-            Refusal::Repeat => 0,
-            Refusal::Mixed => 0,
-            Refusal::Order => 0,
-            Refusal::Place => 0,
+            Refusal::Points { first, .. } => first,
+            _ => 0,
         }
     }
 
@@ -95,48 +87,57 @@ impl Refusal {
         ensures { result ≡ second_of self }
     {
         match self {
-            Refusal::Record => 0,
-            Refusal::Kind => 0,
-            Refusal::Size => 0,
-            Refusal::Points { first: _, second } => second,
-            Refusal::Length => 0,
-            Refusal::Node => 0,
-            Refusal::Repeat => 0,
-            Refusal::Mixed => 0,
-            Refusal::Order => 0,
-            Refusal::Place => 0,
+            Refusal::Points { second, .. } => second,
+            _ => 0,
         }
     }
 }
 
+// Document 01's number, and of refusal 4 its pair of places too.
+impl fmt::Display for Refusal {
+    fn fmt<W: fmt::Write>(&self, f: &mut fmt::Formatter<W>) -> fmt::Result {
+        let number = self.number();
+        match self {
+            Refusal::Points { first, second } => write!(f, "{number} at {first} and {second}"),
+            _ => write!(f, "{number}"),
+        }
+    }
+}
+
+impl Error for Refusal {}
+
 impl Code {
     // The bytes of a share of one stripe, by the table of document 01; a number for codes that are refused too.
+    #[tactic(auto, using(std::proofs::lemmas::Bool::Decides::nat_tests), unfolding(crate::specs::Sizes::alpha))]
     pub fn alpha(self) -> usize
         ensures { result ≡ alpha self }
     {
-        if self.kind == 1 {
-            return self.d as usize;
+        if self.kind == MBR {
+            usize::from(self.d)
+        } else {
+            usize::from(self.k).saturating_sub(1)
         }
-        less(self.k, 1)
     }
 
     // The bytes of a message stripe, by the table of document 01; a number for codes that are refused too.
+    #[tactic(auto, using(std::proofs::lemmas::Bool::Decides::nat_tests), unfolding(crate::specs::Sizes::bytes))]
     pub fn bytes(self) -> usize
         ensures { result ≡ bytes self }
     {
-        let k = self.k as usize;
-        if self.kind == 1 {
-            return k * (k + 1) / 2 + k * less(self.d, self.k);
+        let k = usize::from(self.k);
+        if self.kind == MBR {
+            k * (k + 1) / 2 + k * usize::from(self.d).saturating_sub(k)
+        } else {
+            k * k.saturating_sub(1)
         }
-        k * less(self.k, 1)
     }
 
     // The point of a node, whatever its number: node 0 reads the first place, and past the last place a point is 0.
     pub fn point(self, node: Node) -> Symbol
         ensures { result.0 ≡ (get_or self.points (node.0 - 1) none).0 }
     {
-        let points = self.points;
-        point_in(points, node.0)
+        let i = usize::from(node.0).saturating_sub(1);
+        self.points.get(i).copied().unwrap_or(Symbol::ZERO)
     }
 }
 
@@ -151,7 +152,6 @@ pub fn judge(code: Code) -> Result<Accepted, Refusal>
     if !is_sized(code) {
         return Err(Refusal::Size);
     }
-    let points = code.points;
-    judge_points(marks_of(code, points), points, code.n as usize)?;
+    judge_points(code)?;
     Ok(Accepted { code })
 }

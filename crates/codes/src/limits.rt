@@ -1,51 +1,24 @@
 // The kinds and sizes that a code may have.
-ghost use Rattle.std.specs.Prelude.{◌≡◌, ◌-◌, ◌<◌};
+ghost use Rattle.std.specs.Prelude.{◌≡◌};
 ghost use Rattle.codes.specs.Judge.{known, sized};
 
 use crate::Code;
 
-// How much a is over b; 0 where it is not.
-pub fn less(a: u8, b: u8) -> usize
-    ensures { (result ≡ a - b) × (result < 256) }
-{
-    if a < b {
-        return 0;
-    }
-    (a - b) as usize
-}
+pub const MBR: u8 = 1;
 
+pub const MSR: u8 = 2;
+
+#[tactic(auto, using(std::proofs::lemmas::Bool::Decides::nat_tests), unfolding(crate::specs::Judge::known))]
 pub fn is_known(kind: u8) -> bool
     ensures { result ≡ known kind }
 {
-    if kind == 1 {
-        return true;
-    }
-    kind == 2
+    kind == MBR || kind == MSR
 }
 
+#[tactic(auto, using(std::proofs::lemmas::Bool::Decides::nat_tests), unfolding(crate::specs::Judge::sized))]
 pub fn is_sized(code: Code) -> bool
     ensures { result ≡ sized code }
 {
-    if code.n < 2 {
-        return false;
-    }
-    if 32 < code.n {
-        return false;
-    }
-    if code.k < 1 {
-        return false;
-    }
-    if code.d < code.k {
-        return false;
-    }
-    if code.n - 1 < code.d {
-        return false;
-    }
-    if code.kind == 2 {
-        if code.k < 2 {
-            return false;
-        }
-        return code.d == 2 * code.k - 2;
-    }
-    true
+    let Code { kind, n, k, d, .. } = code;
+    2 <= n && n <= 32 && 1 <= k && k <= d && d < n && (kind != MSR || 2 <= k && d == 2 * k - 2)
 }
