@@ -118,16 +118,6 @@ told-value : (n : ℕ) (p : ℕ × ℕ) (v : ℕ) → n ≢ 0 → (tell n p v).v
 unfolding tell
 told-value n p v z = simp (ne_eqb n 0 z)
 
-told-bare : (n : ℕ) (p : ℕ × ℕ) → (tell n p 0).value ≡ 0
-unfolding tell
-told-bare zero p = refl
-told-bare (suc n) p = told-value (suc n) p 0 (λ e. omega arith)
-
--- an operation whose done carries nothing
-pub answered-bare : (rs : List Reason) (p : ℕ × ℕ) → (answered rs p 0).value ≡ 0
-unfolding answered
-answered-bare rs p = told-bare (refusal rs) p
-
 module _ (rs : List Reason) (p : ℕ × ℕ) (v : ℕ) where
   pub answered-pair : refusal rs ≢ 4 → ((answered rs p v).first ≡ 0) × ((answered rs p v).second ≡ 0)
   unfolding answered

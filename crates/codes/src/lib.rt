@@ -108,7 +108,7 @@ impl Error for Refusal {}
 
 impl Code {
     // The bytes of a share of one stripe, by the table of document 01; a number for codes that are refused too.
-    #[tactic(auto, using(std::proofs::lemmas::Bool::Decides::nat_tests), unfolding(crate::specs::Sizes::alpha))]
+    #[tactic(auto, unfolding(crate::specs::Sizes::alpha))]
     pub fn alpha(self) -> usize
         ensures { result ≡ alpha self }
     {
@@ -120,7 +120,7 @@ impl Code {
     }
 
     // The bytes of a message stripe, by the table of document 01; a number for codes that are refused too.
-    #[tactic(auto, using(std::proofs::lemmas::Bool::Decides::nat_tests), unfolding(crate::specs::Sizes::bytes))]
+    #[tactic(auto, unfolding(crate::specs::Sizes::bytes))]
     pub fn bytes(self) -> usize
         ensures { result ≡ bytes self }
     {

@@ -8,7 +8,7 @@ pub const MBR: u8 = 1;
 
 pub const MSR: u8 = 2;
 
-#[tactic(auto, using(std::proofs::lemmas::Bool::Decides::nat_tests), unfolding(crate::specs::Judge::known))]
+#[tactic(auto, unfolding(crate::specs::Judge::known))]
 pub fn is_known(kind: u8) -> bool
     ensures { result ≡ known kind }
 {
@@ -20,5 +20,9 @@ pub fn is_sized(code: Code) -> bool
     ensures { result ≡ sized code }
 {
     let Code { kind, n, k, d, .. } = code;
-    2 <= n && n <= 32 && 1 <= k && k <= d && d < n && (kind != MSR || 2 <= k && d == 2 * k - 2)
+    (2..=32).contains(&n)
+        && 1 <= k
+        && k <= d
+        && d < n
+        && (kind != MSR || (2 <= k && d == 2 * k - 2))
 }

@@ -9,7 +9,7 @@ use crate::{Code, Refusal};
 use field::Symbol;
 
 // What must differ between any two points.
-#[tactic(auto, using(std::proofs::lemmas::Bool::Decides::nat_tests), unfolding(crate::specs::Judge::mark))]
+#[tactic(auto, unfolding(crate::specs::Judge::mark))]
 fn mark_of(code: Code, x: Symbol) -> u8
     ensures { result ≡ mark code x.0 }
 {
@@ -20,7 +20,6 @@ fn mark_of(code: Code, x: Symbol) -> u8
     }
 }
 
-#[tactic(auto, unfolding(crate::specs::Judge::marks))]
 fn marks_of(code: Code) -> [u8; 32]
     ensures { result ≡ marks code }
 {
@@ -45,7 +44,7 @@ fn first_pair(m: &[u8; 32], n: usize) -> Option<(usize, usize)>
 }
 
 // The first place from n on whose point is not zero.
-#[tactic(auto, using(crate::proofs::First::searches, std::proofs::lemmas::Bool::Decides::nat_tests), unfolding(crate::specs::Judge::unused_at))]
+#[tactic(auto, using(crate::proofs::First::searches), unfolding(crate::specs::Judge::unused_at))]
 fn first_unused(points: &[Symbol; 32], n: usize) -> Option<usize>
     requires { n ≤ 32 }
     ensures { MatchOption result (32 ≤ unused_at points.now n) (λ u. (u ≡ unused_at points.now n) × (u < 32)) }
