@@ -7,6 +7,7 @@ ghost use Rattle.codes.specs.declared.Refusal.TheVariants.{Points};
 use crate::limits::MBR;
 use crate::{Code, Refusal};
 use field::Symbol;
+use std::array;
 
 // What must differ between any two points.
 #[tactic(auto, unfolding(crate::specs::Judge::mark))]
@@ -23,7 +24,7 @@ fn mark_of(code: Code, x: Symbol) -> u8
 fn marks_of(code: Code) -> [u8; 32]
     ensures { result ≡ marks code }
 {
-    code.points.map(|x| mark_of(code, x))
+    array::from_fn(|i| mark_of(code, code.points[i]))
 }
 
 // The first pair of places below n with equal marks.
