@@ -1,97 +1,74 @@
 // The edges of the judge. For each, a line with what is judged, the answer's number and, for refusal 4, its pair.
-use crate::say::{say, say_number};
+ghost use Rattle.std.specs.Prelude.{◌<◌};
+
+use crate::answers::print_answer;
 use codes::Code;
 use field::Symbol;
+use std::{array, io};
 
-fn show(label: &[u8], code: Code) {
-    say(label);
-    say(b": ");
-    match codes::judge(code) {
-        Ok(()) => {
-            say(b"0");
-        }
-        Err(r) => {
-            say_number(r.number() as u32);
-            if r.number() == 4 {
-                say(b" at ");
-                say_number(r.first() as u32);
-                say(b" and ");
-                say_number(r.second() as u32);
-            }
-        }
-    }
-    say(b"\n");
+fn show(rt: &impl Print, label: &str, code: Code) -> io::Result<()> {
+    print!(rt; "{label}: ")?;
+    print_answer(rt, codes::judge(code))?;
+    println!(rt; "")
 }
 
-// The points 0, 1, 2 and so on, n of them.
-fn counted(n: u8) -> [Symbol; 32] {
-    let mut points = [Symbol(0); 32];
-    let mut i: usize = 0;
-    let mut x: u8 = 0;
-    while i < 32 {
-        if x < n {
-            points[i] = Symbol(x);
-            x += 1;
-        }
-        i += 1;
-    }
-    points
-}
-
+// A code whose points are 0, 1, 2 and so on.
 fn code(kind: u8, n: u8, k: u8, d: u8) -> Code {
     Code {
         kind,
         n,
         k,
         d,
-        points: counted(n),
+        points: array::from_fn(|i| Symbol(if i < usize::from(n) { i as u8 } else { 0 })),
     }
 }
 
-pub fn sizes() {
-    show(b"MBR n=32 k=31 d=31", code(1, 32, 31, 31));
-    show(b"MBR n=33 k=31 d=31", code(1, 33, 31, 31));
-    show(b"MBR n=32 k=31 d=32", code(1, 32, 31, 32));
-    show(b"MBR n=2 k=1 d=1", code(1, 2, 1, 1));
-    show(b"MBR n=1 k=1 d=1", code(1, 1, 1, 1));
-    show(b"MBR n=4 k=0 d=3", code(1, 4, 0, 3));
-    show(b"MBR n=4 k=4 d=3", code(1, 4, 4, 3));
+fn show_size(rt: &impl Print, name: &str, kind: u8, n: u8, k: u8, d: u8) -> io::Result<()> {
+    print!(rt; "{name} n={n} k={k} d={d}")?;
+    show(rt, "", code(kind, n, k, d))
 }
 
-pub fn kinds() {
-    show(b"MSR n=3 k=1 d=1", code(2, 3, 1, 1));
-    show(b"MSR n=5 k=3 d=4", code(2, 5, 3, 4));
-    show(b"MSR n=5 k=3 d=3", code(2, 5, 3, 3));
-    show(b"MSR n=31 k=16 d=30", code(2, 31, 16, 30));
-    show(b"kind 0", code(0, 4, 2, 3));
-    show(b"kind 3", code(3, 4, 2, 3));
-}
-
-fn with_point(code: Code, at: usize, x: u8) -> Code {
-    let mut points = code.points;
-    if at < 32 {
-        points[at] = Symbol::of(x);
+pub fn sizes(rt: &impl Print) -> io::Result<()> {
+    for (n, k, d) in [
+        (32, 31, 31),
+        (33, 31, 31),
+        (32, 31, 32),
+        (2, 1, 1),
+        (1, 1, 1),
+        (4, 0, 3),
+        (4, 4, 3),
+    ] {
+        show_size(rt, "MBR", 1, n, k, d)?;
     }
-    Code {
-        kind: code.kind,
-        n: code.n,
-        k: code.k,
-        d: code.d,
-        points,
+    for (n, k, d) in [(3, 1, 1), (5, 3, 4), (5, 3, 3), (31, 16, 30)] {
+        show_size(rt, "MSR", 2, n, k, d)?;
     }
+    Ok(())
 }
 
-pub fn points() {
+pub fn kinds(rt: &impl Print) -> io::Result<()> {
+    show(rt, "kind 0", code(0, 4, 2, 3))?;
+    show(rt, "kind 3", code(3, 4, 2, 3))
+}
+
+fn with_point(mut code: Code, at: usize, x: u8) -> Code
+    requires { at < 32 }
+{
+    code.points[at] = Symbol(x);
+    code
+}
+
+pub fn points(rt: &impl Print) -> io::Result<()> {
     let equal_cubes = with_point(code(2, 7, 4, 6), 5, 214);
-    show(b"MSR k=4, points 1 and 2^85 have equal cubes", equal_cubes);
+    show(
+        rt,
+        "MSR k=4, points 1 and 2^85 have equal cubes",
+        equal_cubes,
+    )?;
     let distinct = with_point(code(1, 7, 4, 6), 5, 214);
-    show(b"MBR, the same points", distinct);
-    show(
-        b"an unused point that is not zero",
-        with_point(code(1, 4, 2, 3), 5, 9),
-    );
-    show(
-        b"a pair and an unused point",
-        with_point(with_point(code(1, 4, 2, 3), 3, 1), 5, 9),
-    );
+    show(rt, "MBR, the same points", distinct)?;
+    let unused = with_point(code(1, 4, 2, 3), 5, 9);
+    show(rt, "an unused point that is not zero", unused)?;
+    let both = with_point(unused, 3, 1);
+    show(rt, "a pair and an unused point", both)
 }

@@ -1,13 +1,14 @@
 // The midnight story, as it should have gone. Code A's book of one stripe is cut for four stations. A slip is delivered twice
 // at each, and the second delivery is refused. A later slip reaches one station, whose share is then lost; it is rebuilt from the others at
 // the earlier count. Both slips are sent again. At the end each share is the one that is cut from the corrected book, but for the count.
-use crate::say::{say, say_byte, say_number};
+use crate::answers::print_answer;
 use batches::rebuild_file;
 use books::{answer_for, cut};
 use codes::{Code, Node};
 use field::Symbol;
 use records::numbers::number4;
-use shares::take_slip;
+use std::{array, io};
+use streams::take_slip;
 
 const FIRST: [u8; 10] = [80, 0, 0, 0, 1, 0, 0, 0, 1, 1];
 
@@ -15,10 +16,7 @@ const SECOND: [u8; 10] = [80, 0, 0, 0, 2, 0, 0, 0, 3, 1];
 
 fn code_a() -> Code {
     let mut points = [Symbol(0); 32];
-    points[0] = Symbol(1);
-    points[1] = Symbol(2);
-    points[2] = Symbol(3);
-    points[3] = Symbol(4);
+    points[..4].copy_from_slice(&[Symbol(1), Symbol(2), Symbol(3), Symbol(4)]);
     Code {
         kind: 1,
         n: 4,
@@ -28,124 +26,71 @@ fn code_a() -> Code {
     }
 }
 
-// The station, the count and the three symbols of a share file of code A.
-fn show(file: &[u8; 79]) {
-    say(b"  station ");
-    say_byte(file[38]);
-    say(b" at count ");
-    say_number(number4(file, 41));
-    say(b": ");
-    say_byte(file[48]);
-    say(b" ");
-    say_byte(file[49]);
-    say(b" ");
-    say_byte(file[50]);
-    say(b"\n");
-}
-
-fn number_of(answer: Counted) -> u32 {
-    if let Err(r) = answer {
-        return r.number() as u32;
+// The share files of the four stations, cut from a book.
+fn cut_all(book: &[u8; 5]) -> [[u8; 79]; 4] {
+    let mut files = [[0u8; 79]; 4];
+    for (i, file) in files.iter_mut().enumerate() {
+        let _ = cut(code_a(), Node(i as u8 + 1), 1, book, file);
     }
-    0
+    files
 }
 
-// Delivers a slip, and says the answer's number.
-fn deliver(file: &mut [u8; 79], slip: &[u8; 10]) {
-    say(b" ");
-    let answer = take_slip(file, slip);
-    say_number(number_of(answer));
-}
-
-fn share_of(node: u8, book: &[u8; 5]) -> [u8; 79] {
-    let mut file = [0u8; 79];
-    cut(code_a(), Node(node), 1, book, &mut file);
-    file
-}
-
-// What a station answers for station 1.
-fn answer_of(file: &[u8; 79]) -> [u8; 10] {
-    let mut answer = [0u8; 10];
-    answer_for(file, Node(1), &mut answer);
-    answer
-}
-
-// Three answers end to end.
-fn joined(a: [u8; 10], b: [u8; 10], c: [u8; 10]) -> [u8; 30] {
-    let mut all = [0u8; 30];
-    let mut i: usize = 0;
-    while i < 10 {
-        all[i] = a[i];
-        all[10 + i] = b[i];
-        all[20 + i] = c[i];
-        i += 1;
+// The station, the count and the three symbols of each share file.
+fn show_all(rt: &impl Print, files: &[[u8; 79]; 4]) -> io::Result<()> {
+    for file in files {
+        let count = number4(file, 41);
+        println!(rt;
+            "  station {} at count {count}: {} {} {}",
+            file[38], file[48], file[49], file[50]
+        )?;
     }
-    all
+    Ok(())
 }
 
-// The share of station 1, rebuilt from the answers of the others.
-fn rebuilt(second: &[u8; 79], third: &[u8; 79], fourth: &[u8; 79]) -> [u8; 79] {
-    let answers = joined(answer_of(second), answer_of(third), answer_of(fourth));
-    let mut file = [0u8; 79];
-    let answer = rebuild_file(code_a(), Node(1), 1, &answers, &mut file);
-    say(b"share of station 1 lost, and rebuilt: ");
-    say_number(number_of(answer));
-    say(b"\n");
-    file
+// Delivers a slip, and prints the answer.
+fn deliver(rt: &impl Print, file: &mut [u8; 79], slip: &[u8; 10]) -> io::Result<()> {
+    print!(rt; " ")?;
+    print_answer(rt, take_slip(file, slip))
 }
 
 // Delivers a slip to each station in turn.
-fn deliver_all(
-    a: &mut [u8; 79],
-    b: &mut [u8; 79],
-    c: &mut [u8; 79],
-    d: &mut [u8; 79],
-    slip: &[u8; 10],
-) {
-    say(b"slip ");
-    say_number(number4(slip, 1));
-    say(b" to each station:");
-    deliver(a, slip);
-    deliver(b, slip);
-    deliver(c, slip);
-    deliver(d, slip);
-    say(b"\n");
+fn deliver_all(rt: &impl Print, files: &mut [[u8; 79]; 4], slip: &[u8; 10]) -> io::Result<()> {
+    print!(rt; "slip {} to each station:", number4(slip, 1))?;
+    for file in files.iter_mut() {
+        deliver(rt, file, slip)?;
+    }
+    println!(rt; "")
 }
 
-fn show_all(a: &[u8; 79], b: &[u8; 79], c: &[u8; 79], d: &[u8; 79]) {
-    show(a);
-    show(b);
-    show(c);
-    show(d);
+// Rebuilds the share of station 1 from the answers of the others.
+fn rebuild_first(rt: &impl Print, files: &mut [[u8; 79]; 4]) -> io::Result<()> {
+    let mut answers = [0u8; 30];
+    for (answer, file) in answers.chunks_exact_mut(10).zip(&files[1..]) {
+        let _ = answer_for(file, Node(1), answer);
+    }
+    files[0] = [0; 79];
+    print!(rt; "share of station 1 lost, and rebuilt: ")?;
+    print_answer(
+        rt,
+        rebuild_file(code_a(), Node(1), 1, &answers, &mut files[0]),
+    )?;
+    println!(rt; "")
 }
 
-fn fresh(book: &[u8; 5]) {
-    let a = share_of(1, book);
-    let b = share_of(2, book);
-    let c = share_of(3, book);
-    let d = share_of(4, book);
-    show_all(&a, &b, &c, &d);
-}
-
-pub fn midnight() {
-    let book: [u8; 5] = [1, 2, 3, 4, 5];
-    let mut a = share_of(1, &book);
-    let mut b = share_of(2, &book);
-    let mut c = share_of(3, &book);
-    let mut d = share_of(4, &book);
-    say(b"the book 1 2 3 4 5 is cut\n");
-    show_all(&a, &b, &c, &d);
-    deliver_all(&mut a, &mut b, &mut c, &mut d, &FIRST);
-    deliver_all(&mut a, &mut b, &mut c, &mut d, &FIRST);
-    say(b"slip 2 to station 1 alone:");
-    deliver(&mut a, &SECOND);
-    say(b"\n");
-    a = rebuilt(&b, &c, &d);
-    show_all(&a, &b, &c, &d);
-    deliver_all(&mut a, &mut b, &mut c, &mut d, &FIRST);
-    deliver_all(&mut a, &mut b, &mut c, &mut d, &SECOND);
-    show_all(&a, &b, &c, &d);
-    say(b"the corrected book 1 3 3 5 5 is cut\n");
-    let corrected: [u8; 5] = [1, 3, 3, 5, 5];
-    fresh(&corrected);
+pub fn midnight(rt: &impl Print) -> io::Result<()> {
+    println!(rt; "the book 1 2 3 4 5 is cut")?;
+    let mut files = cut_all(&[1, 2, 3, 4, 5]);
+    show_all(rt, &files)?;
+    deliver_all(rt, &mut files, &FIRST)?;
+    deliver_all(rt, &mut files, &FIRST)?;
+    print!(rt; "slip 2 to station 1 alone:")?;
+    deliver(rt, &mut files[0], &SECOND)?;
+    println!(rt; "")?;
+    rebuild_first(rt, &mut files)?;
+    show_all(rt, &files)?;
+    deliver_all(rt, &mut files, &FIRST)?;
+    deliver_all(rt, &mut files, &SECOND)?;
+    show_all(rt, &files)?;
+    println!(rt; "the corrected book 1 3 3 5 5 is cut")?;
+    show_all(rt, &cut_all(&[1, 3, 3, 5, 5]))
 }
