@@ -66,17 +66,16 @@ impl Code {
     {
         let at = usize::from(b);
         let k = usize::from(self.k);
-        if self.kind == MBR {
-            let s = triangle_size(k);
-            if at < s {
-                return in_triangle(0, k, at);
-            }
-            return beside(k, usize::from(self.d).saturating_sub(k), at - s);
-        }
-        let w = k.saturating_sub(1);
+        let w = if self.kind == MBR {
+            k
+        } else {
+            k.saturating_sub(1)
+        };
         let s = triangle_size(w);
         if at < s {
             in_triangle(0, w, at)
+        } else if self.kind == MBR {
+            beside(k, usize::from(self.d).saturating_sub(k), at - s)
         } else {
             in_triangle(1, w, at - s)
         }
