@@ -7,6 +7,7 @@ use native.Mathlib.Numerals.{add-one}
 use native.Mathlib.Omega.{arith}
 use lib.Dec.{eqb}
 use borrow.Author.Tests.{eqb-true, eqb-false}
+use Rattle.std.proofs.lemmas.Bool.Decides.{nat_tests}
 use Rattle.codes.specs.First.{first}
 use Rattle.codes.proofs.Bools.{by-test}
 
@@ -55,5 +56,5 @@ module _ (p : ℕ → Bool) where
       by-test (p i) (λ e. ap p (stop n i e) ∙ e)
       (λ e. ap p (skip n i e) ∙ first-at n (i + 1) (omega (arith, skip n i e)))
 
--- one turn of a search, and its end
-pub ruleset searches = (first_more, first-here, first-none)
+-- one turn of a search and its end, with what its tests mean
+pub ruleset searches = (first_more, first-here, first-none, nat_tests)

@@ -1,4 +1,4 @@
--- The laws of codes. In general: Bools, First, Symbols. Refusals: Told, the ladder. The judge: Tests, Pairs, Rules, Only. Numbers: Sizes, and FillOrder the cell of a symbol.
+-- The laws of codes. In general: Bools, First, Symbols, Arrays. Refusals: Told, the ladder. The judge: Tests, Pairs, Rules, Only. Numbers: Sizes, and FillOrder the cell of a symbol.
 -- The general form of the construction: Places (the triangle), Blocks, General (fill and read), Moved; Mbr, Msr and Matrix show the kinds
 -- to be instances. From it Linear, Slip; Apart, Rebuilt, Gathered and Run carry it to rebuilding and collecting.
 pub mod Bools

@@ -30,7 +30,7 @@ pub struct Node(pub u8);
 // A code: its kind, the numbers n, k and d, and 32 places for points, of which the first n count.
 #[derive(Clone, Copy)]
 pub struct Code {
-    // Stays: the byte of a C record, any byte may stand there, and alpha, bytes, cell and mark answer for all of them. The judge refuses what is no kind.
+    // Stays: a C record's byte, which may be any. The judge refuses what is no kind, and alpha, bytes, cell and mark answer for all.
     pub kind: u8,
     pub n: u8,
     pub k: u8,

@@ -28,7 +28,7 @@ fn marks_of(code: Code) -> [u8; 32]
 }
 
 // The first pair of places below n with equal marks.
-#[tactic(auto, using(crate::proofs::First::searches, std::proofs::lemmas::Bool::Decides::nat_tests), unfolding(crate::specs::Judge::pair_first, crate::specs::Judge::pair_second))]
+#[tactic(auto, using(crate::proofs::First::searches), unfolding(crate::specs::Judge::pair_first, crate::specs::Judge::pair_second))]
 fn first_pair(m: &[u8; 32], n: usize) -> Option<(usize, usize)>
     requires { n ≤ 32 }
     ensures { MatchOption result (n ≤ pair_first m.now n)
