@@ -1,20 +1,26 @@
 -- A lent row and a lent table of products: sums of products in a loop, and what the row of a node and the right table give.
 --   node_row                      the powers of a node's point are its row
 --   term_is                       one product, as the code has it
---   weighed-none, weighed-step    the sum of products in an accumulator;   weighed-same   of equal vectors
+--   weighed-none, weighed-step    the sum of products in an accumulator;   weighed-fold   in a fold;   weighed-same   of equal vectors
 --   weighed-row                   by a row of symbols and the right table it is the sum of their products
 --   helped-none, helped-is        the two cases of a helper's symbol;   helped-row   by the failed node's row it is the helper's symbol
 --   share-row                     by the node's row the share
---   encoded-unknown, -unsized, -many, -other, -is      the cases of encoding;   encoded-row   by the node's row the share is written
+--   encoded-shapeless, -many, -other, -is      the cases of encoding;   encoded-row   by the node's row the share is written
 -- Assumes nothing.
-use mathlib.Core.Path.{◌≡◌, ◌∙◌, sym, ap, ap₂}
-use mathlib.Core.Bool.{true, false}
+use mathlib.Core.Path.{◌≡◌, ◌∙◌, refl, sym, ap, ap₂, subst}
+use mathlib.Core.Bool.{false, ◌&&◌}
 use mathlib.Core.List.{List}
-use Prim.Native.Nat.{ℕ, ◌+◌, ◌-◌, ◌<◌, ◌≤◌}
+use Prim.Native.Nat.{ℕ, zero, suc, ◌+◌, ◌-◌, ◌<◌, ◌≤◌}
 use native.Mathlib.Omega.{arith}
 use borrow.Author.Tests.{eq-eqb, ne_eqb, le-leb, lt-leb}
 use lib.Bits.{bit_xor}
-use lib.ListN.{length, get_or}
+use lib.ListN.{length, get_or, take}
+use lib.Seq.{take_all}
+use native.Mathlib.Numerals.{add-one}
+use Rattle.std.specs.List.{fold, zip}
+use Rattle.std.proofs.lemmas.List.Sums.{fold_more}
+use Rattle.std.proofs.lemmas.Slice.Zip.{length-zip, get_or-zip}
+use Rattle.field.specs.declared.Symbol.{Symbol}
 use Rattle.field.specs.Tables.{tables, by_table}
 use Rattle.field.proofs.Laws.{by-tables}
 use Rattle.algebra.specs.Symbol.{F, symbol, ◌⊗◌, 𝟘, pow}
@@ -53,6 +59,24 @@ module _ (r w : List ℕ) (f : Vec) where
       k ∙ ap (bit_xor acc) (g ∙ ap₂ (λ (a : ℕ) (b : F). (symbol (by_table w a b.val)).val) p q)
       ∙ sum-next n (λ i. symbol (by_table w (get_or r i 0) (f i).val)) e
 
+-- one turn of a fold over the row's entries and the bytes of a share
+abbrev pub adds : List ℕ → Symbol → ℕ × ℕ → Symbol
+adds w sum p = record { 0 = bit_xor sum.0 (symbol (by_table w p.0 (symbol p.1).val)).val }
+
+module _ (r w s : List ℕ) (h : length s ≤ length r) where
+  weighed-upto : (i : ℕ) → i ≤ length s → (fold (adds w) none (take i (zip r s))).0 ≡ (weighed i r w (at s)).val
+  weighed-upto zero k = weighed-none r w (at s)
+  weighed-upto (suc i) k =
+      subst (λ (n : ℕ). (fold (adds w) none (take n (zip r s))).0 ≡ (weighed n r w (at s)).val) (add-one i)
+      (ap (λ (x : Symbol). x.0) (fold_more (adds w) none (zip r s) i (0, 0) (omega (arith, length-zip r s))
+      ∙ ap (adds w (fold (adds w) none (take i (zip r s)))) (get_or-zip r s i (0, 0) (omega arith) (omega arith)))
+      ∙ weighed-step r w (at s) i (get_or r i 0) (get_or s i 0) (weighed-upto i (omega arith)) refl refl refl refl)
+
+  pub weighed-fold : (fold (adds w) none (zip r s)).0 ≡ (weighed (length s) r w (at s)).val
+  weighed-fold =
+      ap (λ (l : List (ℕ × ℕ)). (fold (adds w) none l).0) (sym (take_all (length s) (zip r s) (omega (arith, length-zip r s))))
+      ∙ weighed-upto (length s) (omega arith)
+
 pub weighed-same : (n : ℕ) (r w : List ℕ) {f g : Vec} → Same n f g → weighed n r w f ≡ weighed n r w g
 unfolding weighed
 weighed-same n r w e = sum_same n (λ i h. ap (λ (x : F). symbol (by_table w (get_or r i 0) x.val)) (e i h))
@@ -89,26 +113,22 @@ unfolding lent_share row_bytes share
 share-row c v m h = table_same (alpha c) (λ j k. weighed-row c.d (row c v) (λ i. matrix c (at m) i j) h)
 
 module _ (c : Code) (r w m o : List ℕ) where
-  pub encoded-unknown : known c.kind ≡ false → o ≡ encoded_by c r w m o
+  pub encoded-shapeless : (known c.kind && sized c) ≡ false → o ≡ encoded_by c r w m o
   unfolding encoded_by
-  encoded-unknown e = simp e
+  encoded-shapeless e = simp e
 
-  module _ (k : known c.kind ≡ true) where
-    pub encoded-unsized : sized c ≡ false → o ≡ encoded_by c r w m o
+  module _ (k : Known c.kind) (s : Sized c) where
+    pub encoded-many : 496 < length m → o ≡ encoded_by c r w m o
     unfolding encoded_by
-    encoded-unsized e = simp (k, e)
+    encoded-many h = simp (known-when c.kind k, sized-when c s, lt-leb (length m) 496 h)
 
-    pub encoded-many : sized c ≡ true → 496 < length m → o ≡ encoded_by c r w m o
+    pub encoded-other : length m ≤ 496 → (length o ≡ alpha c → ⊥) → o ≡ encoded_by c r w m o
     unfolding encoded_by
-    encoded-many e h = simp (k, e, lt-leb (length m) 496 h)
+    encoded-other h n = simp (known-when c.kind k, sized-when c s, le-leb (length m) 496 h, ne_eqb (length o) (alpha c) n)
 
-    pub encoded-other : sized c ≡ true → length m ≤ 496 → (length o ≡ alpha c → ⊥) → o ≡ encoded_by c r w m o
+    pub encoded-is : length m ≤ 496 → length o ≡ alpha c → lent_share c r w m ≡ encoded_by c r w m o
     unfolding encoded_by
-    encoded-other e h n = simp (k, e, le-leb (length m) 496 h, ne_eqb (length o) (alpha c) n)
-
-  pub encoded-is : Known c.kind → Sized c → length m ≤ 496 → length o ≡ alpha c → lent_share c r w m ≡ encoded_by c r w m o
-  unfolding encoded_by
-  encoded-is k s h e = simp (known-when c.kind k, sized-when c s, le-leb (length m) 496 h, eq-eqb (length o) (alpha c) e)
+    encoded-is h e = simp (known-when c.kind k, sized-when c s, le-leb (length m) 496 h, eq-eqb (length o) (alpha c) e)
 
 pub encoded-row : (c : Code) (v : ℕ) (m o : List ℕ) → Known c.kind → Sized c → length m ≤ 496 → length o ≡ alpha c
     → encoded_by c (row_bytes c v) tables m o ≡ share c v m

@@ -1,5 +1,5 @@
--- The laws of stripes: Walks along lists, Vectors and Grids in arrays, Shapes of codes, Lent rows and tables, Ladder of refusals.
-pub mod Walks
+-- The laws of stripes: Tests over lists, Vectors and Grids in arrays, Shapes of codes, Lent rows and tables, Ladder of refusals.
+pub mod Tests
 pub mod Vectors
 pub mod Grids
 pub mod Shapes

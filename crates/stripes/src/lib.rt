@@ -6,38 +6,36 @@ ghost use Rattle.stripes.specs.Encode.{encoded, encode_leaves, say_encoded};
 ghost use Rattle.stripes.specs.Help.{helped, say_helped};
 ghost use Rattle.stripes.specs.Lent.{encoded_by};
 
-use codes::{Code, Node, Refusal, is_known, is_sized, judge};
-use field::{Symbol, tables};
+use codes::{Code, Node, Refusal, judge};
+use field::{Products, Symbol};
 
 pub mod lists; // lists.rt: tests over lent lists of nodes and of counts
 mod places; // places.rt: where a message's symbol stands in the message matrix
-mod products; // products.rt: products by a lent table
+mod products; // products.rt: a product by a lent table
 mod room; // room.rt: the work room, the message matrix, and row times matrix
 mod rows; // rows.rt: a node's encoding row, and a helper's symbol by it
+mod shape; // shape.rt: the codes whose message matrix has its shape
 
 use lists::is_within;
-use room::write_by;
 use rows::row_of;
 pub use rows::{help_by, row};
+use shape::Shape;
 
 // The share of a node of one message stripe, written whole; or a refusal, and nothing written.
 pub fn encode(code: Code, node: Node, message: &[u8], output: &mut [u8]) -> Result<(), Refusal>
     ensures answer { say_encoded result ≡ encoded code node.0 message.now output.old }
     ensures written { output.new ≡ encode_leaves code node.0 message.now output.old }
 {
-    judge(code)?;
-    if message.len() != code.bytes() {
-        return Err(Refusal::Length);
-    }
-    if output.len() != code.alpha() {
+    let accepted = judge(code)?;
+    if message.len() != code.bytes() || output.len() != code.alpha() {
         return Err(Refusal::Length);
     }
     if !is_within(code, node.0) {
         return Err(Refusal::Node);
     }
-    let t = tables();
-    let row = row_of(code.point(node), &t);
-    write_by(code, &row, &t, message, output);
+    let products = Products::new();
+    let row = row_of(code.point(node), &products);
+    Shape::from(accepted).write_by(&row, &products.bytes, message, output);
     Ok(())
 }
 
@@ -45,19 +43,12 @@ pub fn encode(code: Code, node: Node, message: &[u8], output: &mut [u8]) -> Resu
 pub fn encode_by(code: Code, row: &[u8; 31], t: &[u8; 768], message: &[u8], output: &mut [u8])
     ensures { output.new ≡ encoded_by code row.now t.now message.now output.old }
 {
-    if !is_known(code.kind) {
+    let Some(shape) = Shape::of(code) else {
         return;
+    };
+    if message.len() <= 496 && output.len() == code.alpha() {
+        shape.write_by(row, t, message, output);
     }
-    if !is_sized(code) {
-        return;
-    }
-    if message.len() > 496 {
-        return;
-    }
-    if output.len() != code.alpha() {
-        return;
-    }
-    write_by(code, row, t, message, output);
 }
 
 // What a helper sends for a failed node: its share times the first alpha entries of the failed node's row.
@@ -68,16 +59,13 @@ pub fn help(code: Code, helper: Node, failed: Node, share: &[u8]) -> Result<Symb
     if share.len() != code.alpha() {
         return Err(Refusal::Length);
     }
-    if !is_within(code, helper.0) {
+    if !is_within(code, helper.0) || !is_within(code, failed.0) {
         return Err(Refusal::Node);
     }
-    if !is_within(code, failed.0) {
-        return Err(Refusal::Node);
-    }
-    if helper.0 == failed.0 {
+    if helper == failed {
         return Err(Refusal::Repeat);
     }
-    let t = tables();
-    let row = row_of(code.point(failed), &t);
-    Ok(help_by(&row, &t, share))
+    let products = Products::new();
+    let row = row_of(code.point(failed), &products);
+    Ok(help_by(&row, &products.bytes, share))
 }

@@ -7,61 +7,33 @@ use codes::Code;
 pub fn is_within(code: Code, v: u8) -> bool
     ensures { result ≡ within code v }
 {
-    if v < 1 {
-        return false;
-    }
-    v <= code.n
+    1 <= v && v <= code.n
 }
 
 pub fn all_within(code: Code, nodes: &[u8]) -> bool
     ensures { result ≡ every (within code) nodes.now }
 {
-    let mut i: usize = 0;
-    while i < nodes.len() {
-        if !is_within(code, nodes[i]) {
-            return false;
-        }
-        i += 1;
-    }
-    true
+    nodes.iter().all(|v| is_within(code, *v))
 }
 
 // Whether v is one of the nodes from a place on.
 pub fn has(nodes: &[u8], from: usize, v: u8) -> bool
     ensures { result ≡ has v (drop from nodes.now) }
 {
-    let mut i: usize = from;
-    while i < nodes.len() {
-        if v == nodes[i] {
-            return true;
-        }
-        i += 1;
-    }
-    false
+    nodes.get(from..).is_some_and(|rest| rest.contains(&v))
 }
 
 pub fn repeats(nodes: &[u8]) -> bool
     ensures { result ≡ repeats nodes.now }
 {
-    let mut i: usize = 0;
-    while i < nodes.len() {
-        if has(nodes, i + 1, nodes[i]) {
-            return true;
-        }
-        i += 1;
-    }
-    false
+    nodes.iter().enumerate().any(|(i, v)| has(nodes, i + 1, *v))
 }
 
 pub fn differ(counts: &[u32]) -> bool
     ensures { result ≡ differ counts.now }
 {
-    let mut i: usize = 1;
-    while i < counts.len() {
-        if counts[0] != counts[i] {
-            return true;
-        }
-        i += 1;
-    }
-    false
+    let Some((first, rest)) = counts.split_first() else {
+        return false;
+    };
+    rest.iter().any(|count| count != first)
 }

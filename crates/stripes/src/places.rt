@@ -3,10 +3,9 @@ ghost use Rattle.std.specs.Prelude.{◌≡◌, ◌+◌, ◌*◌, ◌-◌, ◌≤
 ghost use Rattle.codes.specs.Sizes.{alpha};
 ghost use Rattle.codes.specs.Places.{start, triangle};
 ghost use Rattle.codes.specs.Matrix.{mbr, msr, matrix};
-ghost use Rattle.codes.specs.Rules.{Known, Sized};
 ghost use Rattle.stripes.specs.Arrays.{Placed};
 
-use codes::Code;
+use crate::shape::Shape;
 
 // Where row i of a triangle of w rows begins.
 fn start_of(w: usize, i: usize) -> usize
@@ -21,9 +20,10 @@ fn triangle_of(w: usize, i: usize, j: usize) -> usize
     ensures { (result ≡ triangle w i j) × (result ≤ 1031) }
 {
     if i <= j {
-        return start_of(w, i) + (j - i);
+        start_of(w, i) + (j - i)
+    } else {
+        start_of(w, j) + (i - j)
     }
-    start_of(w, j) + (i - j)
 }
 
 // The place of T's entry in row i and column j.
@@ -38,16 +38,12 @@ fn mbr_place(k: usize, d: usize, i: usize, j: usize) -> usize
     requires { (k ≤ d) × (d ≤ 31) × (i < d) × (j < d) }
     ensures { Placed (λ f. mbr k d f i j) result }
 {
-    if i < k {
-        if j < k {
-            return triangle_of(k, i, j);
-        }
-        return beside(k, d, i, j - k);
+    match (i < k, j < k) {
+        (true, true) => triangle_of(k, i, j),
+        (true, false) => beside(k, d, i, j - k),
+        (false, true) => beside(k, d, j, i - k),
+        (false, false) => 496,
     }
-    if j < k {
-        return beside(k, d, j, i - k);
-    }
-    496
 }
 
 fn msr_place(k: usize, i: usize, j: usize) -> usize
@@ -56,18 +52,23 @@ fn msr_place(k: usize, i: usize, j: usize) -> usize
 {
     let w = k - 1;
     if i < w {
-        return triangle_of(w, i, j);
+        triangle_of(w, i, j)
+    } else {
+        start_of(w, w) + triangle_of(w, i - w, j)
     }
-    start_of(w, w) + triangle_of(w, i - w, j)
 }
 
-// The place in the message of the matrix's entry in row i and column j; 496 where no symbol stands there.
-pub fn place_of(code: Code, i: usize, j: usize) -> usize
-    requires { Known code.kind × Sized code × (i < code.d) × (j < alpha code) }
-    ensures { Placed (λ f. matrix code f i j) result }
-{
-    if code.kind == 1 {
-        return mbr_place(code.k as usize, code.d as usize, i, j);
+impl Shape {
+    // The place in the message of the matrix's entry in row i and column j; 496 where no symbol stands there.
+    pub fn place_of(&self, i: usize, j: usize) -> usize
+        requires { (i < self.now.code.d) × (j < alpha self.now.code) }
+        ensures { Placed (λ f. matrix self.now.code f i j) result }
+    {
+        let k = self.code.k as usize;
+        if self.code.kind == 1 {
+            mbr_place(k, self.code.d as usize, i, j)
+        } else {
+            msr_place(k, i, j)
+        }
     }
-    msr_place(code.k as usize, i, j)
 }

@@ -1,18 +1,9 @@
-// Products by a lent table, which is made once for a stripe or for a file.
+// A product by a lent table, which is made once for a stripe or for a file.
 ghost use Rattle.std.specs.Prelude.{◌≡◌};
-ghost use Rattle.field.specs.Field.{mul};
-ghost use Rattle.field.specs.Tables.{tables, by_table};
+ghost use Rattle.field.specs.Tables.{by_table};
 ghost use Rattle.algebra.specs.Symbol.{symbol};
 
 use field::Symbol;
-
-// The product, by the right table.
-pub fn product(a: Symbol, b: Symbol, t: &[u8; 768]) -> Symbol
-    requires { t.now ≡ tables }
-    ensures { result.0 ≡ mul a.0 b.0 }
-{
-    a.times_by(b, t)
-}
 
 // The product as any table has it.
 pub fn term(a: u8, b: Symbol, t: &[u8; 768]) -> Symbol

@@ -1,26 +1,22 @@
 // A node's encoding row, made once for any number of stripes, and what a helper sends by a lent row and a lent table.
 ghost use Rattle.std.specs.Prelude.{◌≡◌};
-ghost use Rattle.field.specs.Tables.{tables};
 ghost use Rattle.algebra.specs.Symbol.{symbol, pow};
 ghost use Rattle.algebra.specs.Bytes.{table};
 ghost use Rattle.stripes.specs.Lent.{row_bytes, helped_by};
 
-use crate::products::{product, term};
+use crate::products::term;
 use codes::{Code, Node};
-use field::{Symbol, tables};
+use field::{Products, Symbol};
 
 // The encoding row of a point: its powers.
-pub fn row_of(x: Symbol, t: &[u8; 768]) -> [u8; 31]
-    requires { t.now ≡ tables }
+pub fn row_of(x: Symbol, products: &Products) -> [u8; 31]
     ensures { result ≡ table 31 (pow (symbol x.0)) }
 {
     let mut row = [0u8; 31];
-    let mut p = Symbol::ONE;
-    let mut i: usize = 0;
-    while i < 31 {
-        row[i] = p.0;
-        p = product(x, p, t);
-        i += 1;
+    let mut power = Symbol::ONE;
+    for byte in row.iter_mut() {
+        *byte = power.0;
+        power = products.times(x, power);
     }
     row
 }
@@ -29,8 +25,7 @@ pub fn row_of(x: Symbol, t: &[u8; 768]) -> [u8; 31]
 pub fn row(code: Code, node: Node) -> [u8; 31]
     ensures { result ≡ row_bytes code node.0 }
 {
-    let t = tables();
-    row_of(code.point(node), &t)
+    row_of(code.point(node), &Products::new())
 }
 
 // What a helper sends, by the failed node's row and a table of products; 0 for a share of more than 31 bytes.
@@ -40,11 +35,8 @@ pub fn help_by(row: &[u8; 31], t: &[u8; 768], share: &[u8]) -> Symbol
     if share.len() > 31 {
         return Symbol::ZERO;
     }
-    let mut acc = Symbol::ZERO;
-    let mut j: usize = 0;
-    while j < share.len() {
-        acc = acc.plus(term(row[j], Symbol::of(share[j]), t));
-        j += 1;
-    }
-    acc
+    row.iter().zip(share).fold(
+        Symbol::ZERO,
+        |sum, (entry, byte)| sum.plus(term(*entry, Symbol::of(*byte), t)),
+    )
 }

@@ -1,21 +1,15 @@
--- The invariant: the nodes passed decide nothing, so the answer is that of the nodes from i on.
-use mathlib.Core.Path.{◌∙◌, refl, sym}
-use Rattle.stripes.proofs.Walks.{every_here, every-next, every-end}
+-- Each node passes the closure's test exactly when it is within the code.
+use mathlib.Core.Path.{◌∙◌}
 use borrow.Author.Rules.{rules}
+use borrow.Author.Tests.{tests}
+use Rattle.std.proofs.lemmas.Iterator.{YieldsList-from_slice}
+use Rattle.std.proofs.lemmas.Iterator.Search.{all_from_yields_List}
+use Rattle.stripes.specs.Lists.{within}
+use Rattle.stripes.proofs.Tests.{every-is}
 use Rattle.stripes.proofs.lists.all_within.Goals as goal
 
-pub loop-i-init : goal.loop-i-init
-loop-i-init c = (search rules, refl)
-
-pub returns-then-not-is_within : goal.returns-then-not-is_within
-returns-then-not-is_within c =
-    let l = c.loop-i in
-    sym (l.invariant.1 ∙ every_here _ _ c.loop-i-test.true _ (sym c.is_within.ensures ∙ c.if-not-is_within.true))
-
-pub loop-i-preserved : goal.loop-i-preserved
-loop-i-preserved c =
-    let l = c.loop-i in
-    (search rules, l.invariant.1 ∙ every-next _ _ c.loop-i-test.true _ (sym c.is_within.ensures ∙ c.if-not-is_within.false))
-
 pub returns : goal.returns
-returns c = sym (c.loop-i.invariant.1 ∙ every-end _ _ _ c.loop-i-test.false)
+returns c =
+    let xs = c.args.nodes.now in
+    all_from_yields_List (within c.args.code) _ _ _ c.all.ensures.ran (YieldsList-from_slice xs cc) (λ x b q k. search (rules, tests))
+    ∙ every-is (within c.args.code) xs

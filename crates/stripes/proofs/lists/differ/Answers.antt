@@ -1,23 +1,21 @@
--- The invariant: the numbers passed equal the first, so the answer is that of the numbers from i on.
-use mathlib.Core.Path.{◌∙◌, sym, ap}
+-- No count, or a first one and the others: whether one of them is not the first.
+use mathlib.Core.Path.{◌∙◌, ap, sym}
 use mathlib.Core.Bool.{not}
-use borrow.Author.Tests.{eq-eqb, ne_eqb}
-use Rattle.stripes.proofs.Walks.{every_here, every-next, every-end, differ-start}
 use borrow.Author.Rules.{rules}
+use borrow.Author.Tests.{tests}
+use lib.Dec.{eqb}
+use Rattle.std.proofs.lemmas.Iterator.{YieldsList-from_slice}
+use Rattle.std.proofs.lemmas.Iterator.Search.{any_from_yields_List}
+use Rattle.stripes.specs.Lists.{differ}
+use Rattle.stripes.proofs.Tests.{differ-none, differ-is}
 use Rattle.stripes.proofs.lists.differ.Goals as goal
 
-pub loop-i-init : goal.loop-i-init
-loop-i-init c = (search rules, differ-start _)
-
-pub returns-then-counts-i : goal.returns-then-counts-i
-returns-then-counts-i c =
-    let l = c.loop-i in
-    sym (l.invariant.1 ∙ ap not (every_here _ _ c.loop-i-test.true _ (ne_eqb _ _ c.if-counts-i.true)))
-
-pub loop-i-preserved : goal.loop-i-preserved
-loop-i-preserved c =
-    let l = c.loop-i in
-    (search rules, l.invariant.1 ∙ ap not (every-next _ _ c.loop-i-test.true _ (eq-eqb _ _ c.if-counts-i.false)))
+pub returns-in_default : goal.returns-in_default
+returns-in_default c = differ-none _ c.in_default.ensures.cases
 
 pub returns : goal.returns
-returns c = sym (c.loop-i.invariant.1 ∙ ap not (every-end _ _ _ c.loop-i-test.false))
+returns c =
+    let x = c.in-Some.first.now in
+    let xs = c.in-Some.rest.now in
+    any_from_yields_List (λ y. not (eqb y x)) _ _ _ c.any.ensures.ran (YieldsList-from_slice xs cc) (λ y b q k. search (rules, tests))
+    ∙ differ-is x xs ∙ sym (ap differ c.in-Some.ensures.cases.0)

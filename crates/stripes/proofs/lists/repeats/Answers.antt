@@ -1,21 +1,19 @@
--- The invariant: no node passed stands again after it, so the answer is that of the nodes from i on.
-use mathlib.Core.Path.{◌∙◌, refl, sym}
-use Rattle.stripes.proofs.Walks.{repeats-here, repeats-next, repeats-end}
+use mathlib.Core.Path.{◌∙◌, refl}
+use Prim.Native.Nat.{ℕ, ◌+◌}
 use borrow.Author.Rules.{rules}
+use borrow.Author.Tests.{tests}
+use lib.ListN.{drop}
+use Rattle.std.proofs.lemmas.Iterator.{YieldsList-from_slice}
+use Rattle.std.proofs.lemmas.Iterator.Consumers.{YieldsList-from_enumerate, YieldsList-at}
+use Rattle.std.proofs.lemmas.Iterator.Search.{any_from_yields_List}
+use Rattle.stripes.specs.Lists.{has}
+use Rattle.stripes.proofs.Tests.{repeats-is}
 use Rattle.stripes.proofs.lists.repeats.Goals as goal
 
-pub loop-i-init : goal.loop-i-init
-loop-i-init c = (search rules, refl)
-
-pub returns-then-has : goal.returns-then-has
-returns-then-has c =
-    let l = c.loop-i in
-    sym (l.invariant.1 ∙ repeats-here _ _ c.loop-i-test.true (sym c.has.ensures ∙ c.if-has.true))
-
-pub loop-i-preserved : goal.loop-i-preserved
-loop-i-preserved c =
-    let l = c.loop-i in
-    (search rules, l.invariant.1 ∙ repeats-next _ _ c.loop-i-test.true (sym c.has.ensures ∙ c.if-has.false))
-
 pub returns : goal.returns
-returns c = sym (c.loop-i.invariant.1 ∙ repeats-end _ _ c.loop-i-test.false)
+returns c =
+    let xs = c.args.nodes.now in
+    any_from_yields_List (λ (p : ℕ × ℕ). has p.1 (drop (p.0 + 1) xs)) _ _ _ c.any.ensures.ran
+    (YieldsList-from_enumerate (YieldsList-from_slice xs cc) cc)
+    (λ x b q k. search (rules, tests))
+    ∙ repeats-is xs xs 0 refl

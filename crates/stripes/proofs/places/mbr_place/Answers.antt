@@ -25,14 +25,14 @@ module _ (k d i j r : ℕ) where
   unfolding mbr
   nowhere a b e f z = simp (le-ltb _ _ a, le-ltb _ _ b) (ap f e ∙ z)
 
-pub returns-then-j-k : goal.returns-then-j-k
-returns-then-j-k c = in-s _ _ _ _ _ (omega arith) (omega arith) c.triangle_of.ensures.0
+pub returns-in-true-true : goal.returns-in-true-true
+returns-in-true-true c = in-s _ _ _ _ _ (omega arith) (omega arith) c.triangle_of.ensures.0
 
-pub returns-then-i-k : goal.returns-then-i-k
-returns-then-i-k c = in-t _ _ _ _ _ (omega arith) (omega arith) c.beside.ensures
+pub returns-in-true-false : goal.returns-in-true-false
+returns-in-true-false c = in-t _ _ _ _ _ (omega arith) (omega arith) c.beside.ensures
 
-pub returns-then-j-k-2 : goal.returns-then-j-k-2
-returns-then-j-k-2 c = below-s _ _ _ _ _ (omega arith) (omega arith) c.beside-then-j-k-2.ensures
+pub returns-in-false-true : goal.returns-in-false-true
+returns-in-false-true c = below-s _ _ _ _ _ (omega arith) (omega arith) c.beside-in-false-true.ensures
 
-pub returns : goal.returns
-returns c = nowhere _ _ _ _ _ (omega arith) (omega arith) (omega arith)
+pub returns-in-false-false : goal.returns-in-false-false
+returns-in-false-false c = nowhere _ _ _ _ _ (omega arith) (omega arith) (omega arith)

@@ -20,5 +20,5 @@ module _ (k i j : ℕ) where
 pub returns-then-i-w : goal.returns-then-i-w
 returns-then-i-w c = in-s1 _ _ _ _ (omega arith) c.triangle_of.ensures.0
 
-pub returns : goal.returns
-returns c = in-s2 _ _ _ _ _ (omega arith) c.start_of.ensures.0 c.triangle_of-2.ensures.0
+pub returns-else-i-w : goal.returns-else-i-w
+returns-else-i-w c = in-s2 _ _ _ _ _ (omega arith) c.start_of.ensures.0 c.triangle_of-else-i-w.ensures.0

@@ -17,5 +17,5 @@ lower w i j r h e = simp (lt-leb _ _ h) (omega arith)
 pub returns-then-i-j : goal.returns-then-i-j
 returns-then-i-j c = (upper _ _ _ _ (omega arith) c.start_of.ensures.0, omega arith)
 
-pub returns : goal.returns
-returns c = (lower _ _ _ _ (omega arith) c.start_of-2.ensures.0, omega arith)
+pub returns-else-i-j : goal.returns-else-i-j
+returns-else-i-j c = (lower _ _ _ _ (omega arith) c.start_of-else-i-j.ensures.0, omega arith)

@@ -24,16 +24,15 @@ whole m w filled rest b (yes h) = filled b h
 whole m w filled rest b (no h) = rest b (omega arith) ∙ sym (get_or-eq_default m 0 (omega arith))
 
 pub loop-i-init : goal.loop-i-init
-loop-i-init c = (search rules, search rules, below_none _, λ b h. zeros 496 b (dec_lt b 496))
+loop-i-init c = (search rules, below_none _, λ b h. zeros 496 b (dec_lt b 496))
 
 pub loop-i-preserved : goal.loop-i-preserved
 loop-i-preserved c =
     let l = c.loop-i in (
       search rules,
-      search rules,
-      below_more _ _ (λ b h. ap (λ (s : Symbol). s.0) (get_or-set_other l.w l.i b _ none (λ e. omega arith)) ∙ l.invariant.2 b h)
-          (ap (λ (s : Symbol). s.0) (get_or-set_same l.w l.i _ none (omega arith)) ∙ c.of.ensures),
-      λ b h. ap (λ (s : Symbol). s.0) (get_or-set_other l.w l.i b _ none (λ e. omega arith)) ∙ l.invariant.3 b (omega arith),
+      below_more _ _ (λ b h. ap (λ (s : Symbol). s.0) (get_or-set_other l.room l.i b _ none (λ e. omega arith)) ∙ l.invariant.1 b h)
+          (ap (λ (s : Symbol). s.0) (get_or-set_same l.room l.i _ none (omega arith)) ∙ c.of.ensures),
+      λ b h. ap (λ (s : Symbol). s.0) (get_or-set_other l.room l.i b _ none (λ e. omega arith)) ∙ l.invariant.2 b (omega arith),
     )
 
 pub returns : goal.returns
@@ -42,5 +41,5 @@ returns c =
     let m = c.args.message.now in
     record {
       long = search rules;
-      each = λ b. ap symbol (whole m l.w (λ q h. l.invariant.2 q (omega arith)) (λ q h. l.invariant.3 q (omega arith)) b (dec_lt b (length m)));
+      each = λ b. ap symbol (whole m l.room (λ q h. l.invariant.1 q (omega arith)) (λ q h. l.invariant.2 q (omega arith)) b (dec_lt b (length m)));
     }

@@ -1,4 +1,4 @@
--- The invariant: the first i entries are the powers, and p is the power i.
+-- The invariant: the first entries are the powers, and the next one is at hand.
 use mathlib.Core.Path.{◌∙◌}
 use native.Mathlib.Omega.{arith}
 use borrow.Author.Count.{below_more, below_none}
@@ -8,18 +8,17 @@ use Rattle.stripes.proofs.Vectors.{pow-none, pow-next}
 use borrow.Author.Rules.{rules}
 use Rattle.stripes.proofs.rows.row_of.Goals as goal
 
-pub loop-i-init : goal.loop-i-init
-loop-i-init c = (search rules, search rules, pow-none _, below_none _)
+pub loop-byte-init : goal.loop-byte-init
+loop-byte-init c = (search rules, pow-none _, below_none _)
 
-pub loop-i-preserved : goal.loop-i-preserved
-loop-i-preserved c =
-    let l = c.loop-i in
-    let x = c.args.x.0 in (
+pub loop-byte-preserved : goal.loop-byte-preserved
+loop-byte-preserved c =
+    let l = c.loop-byte in (
       search rules,
-      search rules,
-      c.product-p.ensures ∙ pow-next x _ _ l.invariant.2,
-      below_more _ _ (λ e h. get_or-set_other l.row l.i e _ 0 (λ q. omega arith) ∙ l.invariant.3 e h) (get_or-set_same l.row l.i _ 0 (omega arith) ∙ l.invariant.2),
+      c.times-power.ensures ∙ pow-next c.args.x.0 _ _ l.invariant.1,
+      below_more _ _ (λ e h. get_or-set_other l.byte-items l.byte-index e _ 0 (λ q. omega arith) ∙ l.invariant.2 e h)
+          (get_or-set_same l.byte-items l.byte-index _ 0 (omega arith) ∙ l.invariant.1),
     )
 
 pub returns : goal.returns
-returns c = let l = c.loop-i in table-ext 31 _ l.row l.invariant.1 (λ e h. l.invariant.3 e (omega arith))
+returns c = let l = c.loop-byte in table-ext 31 _ l.byte-items l.invariant.0 (λ e h. l.invariant.2 e (omega arith))

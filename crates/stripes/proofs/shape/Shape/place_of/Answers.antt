@@ -8,7 +8,7 @@ use Rattle.codes.specs.declared.Code.{Code}
 use Rattle.codes.proofs.Sizes.{alpha-one, alpha-two}
 use Rattle.stripes.specs.Arrays.{Placed}
 use Rattle.stripes.proofs.Shapes.{d-most, k-most, kind-two}
-use Rattle.stripes.proofs.places.place_of.Goals as goal
+use Rattle.stripes.proofs.shape.Shape.place_of.Goals as goal
 
 module _ (c : Code) (i j r : ℕ) where
   one : c.kind ≡ 1 → Placed (λ f. mbr c.k c.d f i j) r → Placed (λ f. matrix c f i j) r
@@ -21,21 +21,19 @@ module _ (c : Code) (i j r : ℕ) where
 
 pub mbr_place-requires : goal.mbr_place-requires
 mbr_place-requires c =
-    let s = c in
-    let r = s.requires.1 in
-    (r.order, d-most _ r, s.requires.2, omega (arith, alpha-one s.args.code c.if-code-eq1.true))
+    let s = c.args.self.now in
+    (s.sized.order, d-most _ s.sized, omega arith, omega (arith, alpha-one s.code c.if-self-eq1.true))
 
-pub returns-then-code-eq1 : goal.returns-then-code-eq1
-returns-then-code-eq1 c = one _ _ _ _ c.if-code-eq1.true c.mbr_place.ensures
+pub returns-then-self-eq1 : goal.returns-then-self-eq1
+returns-then-self-eq1 c = one _ _ _ _ c.if-self-eq1.true c.mbr_place.ensures
 
 pub msr_place-requires : goal.msr_place-requires
 msr_place-requires c =
-    let s = c in
-    let r = s.requires.1 in
-    let h = c.if-code-eq1.false in
-    let e = kind-two s.args.code s.requires.0 h in
-    let t = r.second e in
-    (t.0, k-most s.args.code r e, omega (arith, t.1), omega (arith, alpha-two s.args.code h))
+    let s = c.args.self.now in
+    let h = c.if-self-eq1.false in
+    let e = kind-two s.code s.known h in
+    let t = s.sized.second e in
+    (t.0, k-most s.code s.sized e, omega (arith, t.1), omega (arith, alpha-two s.code h))
 
-pub returns : goal.returns
-returns c = two _ _ _ _ c.if-code-eq1.false c.msr_place.ensures
+pub returns-else-self-eq1 : goal.returns-else-self-eq1
+returns-else-self-eq1 c = two _ _ _ _ c.if-self-eq1.false c.msr_place.ensures
