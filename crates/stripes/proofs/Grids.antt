@@ -1,19 +1,13 @@
 -- A grid as a list of rows: what a store of one element does to it, for elements of any type.
 --   set2 g i j v          the grid g with v in row i and column j, as the code's store leaves it
 --   row-.., get2-..       a row and an element after a store: the one stored to, and another
---   Shape m n g           g has m rows of n elements;   shape-..  of a store, of a filled array, of an array of arrays that a function owns
+--   Shape m n g           g has m rows of n elements;   shape-..  of a store, of a filled array
 --   Upto P d n i g        P holds of each element of the first i rows, of n columns;   Along P d i j g    of the first j elements of row i
 --   upto-store, along-store      one turn of a loop that fills row i
 -- Assumes nothing.
 use mathlib.Core.Path.{◌≡◌, ◌∙◌, sym, ap, subst}
-use mathlib.Core.List.{List, [], ◌∷◌}
-use Prim.Native.Nat.{ℕ, zero, suc, ◌+◌, ◌<◌}
-use native.Mathlib.Nat.{le_of_suc-le-suc, not-suc-le-zero}
-use mir.Val.{Val}
-use denote.RattleType.{RattleType}
-use denote.Shadow.{shadow}
-use denote.Array.{each, Array}
-use denote.Laws.{Is}
+use mathlib.Core.List.{List, []}
+use Prim.Native.Nat.{ℕ, ◌+◌, ◌<◌}
 use native.Mathlib.Decide.{ℕ_discrete}
 use native.Mathlib.Omega.{arith}
 use borrow.Author.Count.{below_more}
@@ -71,14 +65,3 @@ module _ {A : Type 0} where
         below_more (λ q. P i q (get_or (get_or (set2 g i j v) i []) q d)) j
         (λ q hq. subst (λ (x : A). P i q x) (sym (get2-other g i j v d q hi (λ e. omega arith))) (h q hq))
         (subst (λ (x : A). P i j x) (sym (get2-same g i j v d hi hj)) here)
-
--- what owning an array of arrays says of it: each row has n elements
-rows_long : (R : RattleType) (n : ℕ) (xs : List (List R.Denot)) (us : List Val) (i : ℕ) → shadow (each (List R.Denot) (Array R n).own_val xs us) → i < length xs → length (get_or xs i []) ≡ n
-rows_long R n [] us i p h = absurd (not-suc-le-zero h)
-rows_long R n (x ∷ xs) [] i p h = absurd p
-rows_long R n (x ∷ xs) (u ∷ us) zero p h = p.0.1.0.1
-rows_long R n (x ∷ xs) (u ∷ us) (suc i) p h = rows_long R n xs us i p.1 (le_of_suc-le-suc h)
-
--- a parameter or a result that is an array of m arrays of n: c.good.0, or c.callee.ok
-pub shape-good : (R : RattleType) (m n : ℕ) (xs : List (List R.Denot)) (vs : List Val) → Is (Array (Array R n) m) xs vs → Shape m n xs
-shape-good R m n xs vs p = record { rows = p.1.0.1; cols = λ k hk. rows_long R n xs p.0 k p.1.1 (subst (λ (l : ℕ). k < l) (sym p.1.0.1) hk) }

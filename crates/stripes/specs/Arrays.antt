@@ -2,9 +2,7 @@
 --   symbol_at w        a list of symbols as a vector;   cell_at g    a list of rows of symbols as a grid
 --   Held m w          the work room w holds the message m, and zeros past its end
 --   Placed entry r    the message's symbol at place r is the entry; 496 names no symbol
---   Agrees n w f      the first n symbols of w are the numbers of f
 --   Filled g d a G    the first d rows and a columns of g are those of G
---   Put s o o'        the run o' is as long as the run o, and holds the numbers of the symbols s
 -- Assumes nothing.
 use Rattle.std.specs.Prelude.{◌≡◌, List, [], ℕ, ◌<◌, get_or, length}
 use Rattle.field.specs.declared.Symbol.{Symbol}
@@ -26,12 +24,5 @@ pub record Held (m : List ℕ) (w : List Symbol) : Type 0 where
 abbrev pub Placed : (Vec → F) → ℕ → Type 0
 Placed entry r = (f : Vec) → f 496 ≡ 𝟘 → f r ≡ entry f
 
-abbrev pub Agrees : ℕ → List Symbol → Vec → Type 0
-Agrees n w f = (i : ℕ) → i < n → (get_or w i none).0 ≡ (f i).val
-
 abbrev pub Filled : List (List Symbol) → ℕ → ℕ → Grid → Type 0
 Filled g d a G = (i : ℕ) → i < d → (j : ℕ) → j < a → cell_at g i j ≡ G i j
-
-pub record Put (s : List Symbol) (before after : List ℕ) : Type 0 where
-  pub long : length after ≡ length before
-  pub each : (i : ℕ) → i < length before → get_or after i 0 ≡ (get_or s i none).0

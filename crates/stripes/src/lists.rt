@@ -7,7 +7,7 @@ use codes::Code;
 pub fn is_within(code: Code, v: u8) -> bool
     ensures { result ≡ within code v }
 {
-    1 <= v && v <= code.n
+    (1..=code.n).contains(&v)
 }
 
 pub fn all_within(code: Code, nodes: &[u8]) -> bool

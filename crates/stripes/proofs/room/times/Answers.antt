@@ -3,7 +3,7 @@ use mathlib.Core.Path.{◌∙◌, refl, ap}
 use mathlib.Core.List.{[]}
 use Prim.Native.Nat.{ℕ}
 use native.Mathlib.Omega.{arith}
-use borrow.Author.Count.{below_more, below_none}
+use borrow.Author.Count.{below_more}
 use lib.ListN.{get_or}
 use lib.Seq.{get_or-set_same, get_or-set_other}
 use Rattle.algebra.proofs.Bytes.{table-ext}

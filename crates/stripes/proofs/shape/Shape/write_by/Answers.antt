@@ -1,12 +1,11 @@
 -- The steps' promises, put together: each byte written is the product of the lent row with a column of the message matrix.
 use mathlib.Core.Path.{◌≡◌, ◌∙◌, ap, fun_ext}
 use mathlib.Core.List.{List}
-use Prim.Native.Nat.{ℕ, ◌<◌}
+use Prim.Native.Nat.{ℕ}
 use native.Mathlib.Omega.{arith}
-use lib.ListN.{length}
 use Rattle.field.specs.declared.Symbol.{Symbol}
 use Rattle.algebra.specs.Sums.{Vec}
-use Rattle.algebra.specs.Bytes.{at, table}
+use Rattle.algebra.specs.Bytes.{table}
 use Rattle.algebra.proofs.Bytes.{table_same}
 use Rattle.codes.specs.Sizes.{alpha}
 use Rattle.codes.specs.Matrix.{matrix}
