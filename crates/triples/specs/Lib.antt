@@ -1,2 +1,2 @@
 pub mod Triples
-pub mod Columns
+pub mod Lent
