@@ -1,5 +1,5 @@
 // Where an entry of the message matrix stands in the message. The definitions count row by row; the code has closed forms.
-ghost use Rattle.std.specs.Prelude.{◌≡◌, ◌+◌, ◌*◌, ◌-◌, ◌≤◌, ◌<◌};
+ghost use Rattle.std.specs.Prelude.{◌≡◌, Some, ◌+◌, ◌*◌, ◌-◌, ◌≤◌, ◌<◌};
 ghost use Rattle.codes.specs.Sizes.{alpha};
 ghost use Rattle.codes.specs.Places.{start, triangle};
 ghost use Rattle.codes.specs.Matrix.{mbr, msr, matrix};
@@ -17,7 +17,7 @@ fn start_of(w: usize, i: usize) -> usize
 
 fn triangle_of(w: usize, i: usize, j: usize) -> usize
     requires { (i < w) × (j < w) × (w ≤ 31) }
-    ensures { (result ≡ triangle w i j) × (result ≤ 1031) }
+    ensures { (result ≡ triangle w i j) × (result < start w w) }
 {
     if i <= j {
         start_of(w, i) + (j - i)
@@ -28,27 +28,27 @@ fn triangle_of(w: usize, i: usize, j: usize) -> usize
 
 // The place of T's entry in row i and column j.
 fn beside(k: usize, d: usize, i: usize, j: usize) -> usize
-    requires { (k ≤ d) × (d ≤ 31) × (i ≤ 31) × (j ≤ 31) }
-    ensures { result ≡ start k k + (i * (d - k) + j) }
+    requires { (k ≤ d) × (d ≤ 31) × (i < k) × (j < d - k) }
+    ensures { (result ≡ start k k + (i * (d - k) + j)) × (result < 496) }
 {
     start_of(k, k) + (i * (d - k) + j)
 }
 
-fn mbr_place(k: usize, d: usize, i: usize, j: usize) -> usize
+fn mbr_place(k: usize, d: usize, i: usize, j: usize) -> Option<usize>
     requires { (k ≤ d) × (d ≤ 31) × (i < d) × (j < d) }
     ensures { Placed (λ f. mbr k d f i j) result }
 {
     match (i < k, j < k) {
-        (true, true) => triangle_of(k, i, j),
-        (true, false) => beside(k, d, i, j - k),
-        (false, true) => beside(k, d, j, i - k),
-        (false, false) => 496,
+        (true, true) => Some(triangle_of(k, i, j)),
+        (true, false) => Some(beside(k, d, i, j - k)),
+        (false, true) => Some(beside(k, d, j, i - k)),
+        (false, false) => None,
     }
 }
 
 fn msr_place(k: usize, i: usize, j: usize) -> usize
     requires { (2 ≤ k) × (k ≤ 16) × (i < 2 * k - 2) × (j < k - 1) }
-    ensures { Placed (λ f. msr k f i j) result }
+    ensures { Placed (λ f. msr k f i j) (Some result) }
 {
     let w = k - 1;
     if i < w {
@@ -59,8 +59,8 @@ fn msr_place(k: usize, i: usize, j: usize) -> usize
 }
 
 impl Shape {
-    // The place in the message of the matrix's entry in row i and column j; 496 where no symbol stands there.
-    pub fn place_of(&self, i: usize, j: usize) -> usize
+    // The place in the message of the matrix's entry in row i and column j; none where no symbol stands there.
+    pub fn place_of(&self, i: usize, j: usize) -> Option<usize>
         requires { (i < self.now.code.d) × (j < alpha self.now.code) }
         ensures { Placed (λ f. matrix self.now.code f i j) result }
     {
@@ -68,7 +68,7 @@ impl Shape {
         if self.code.kind == 1 {
             mbr_place(k, self.code.d as usize, i, j)
         } else {
-            msr_place(k, i, j)
+            Some(msr_place(k, i, j))
         }
     }
 }

@@ -44,10 +44,11 @@ impl Shape {
         let mut grid = [[Symbol::ZERO; 31]; 31];
         for i in 0..self.code.d as usize {
             for j in 0..self.code.alpha() {
-                grid[i][j] = room
-                    .get(self.place_of(i, j))
-                    .copied()
-                    .unwrap_or(Symbol::ZERO);
+                let symbol = match self.place_of(i, j) {
+                    Some(place) => room[place],
+                    None => Symbol::ZERO,
+                };
+                grid[i][j] = symbol;
             }
         }
         grid

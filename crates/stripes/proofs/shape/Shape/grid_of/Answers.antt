@@ -1,13 +1,11 @@
 -- The outer invariant: the first i rows are filled; the inner one: so are the first j entries of row i. Each store changes one entry.
-use mathlib.Core.Path.{◌≡◌, ◌∙◌, ap}
-use mathlib.Core.List.{List}
-use Prim.Native.Nat.{ℕ, ◌<◌, ◌≤◌}
+use mathlib.Core.Path.{◌≡◌, ◌∙◌, sym, ap}
+use Prim.Native.Nat.{◌<◌}
 use native.Mathlib.Omega.{arith}
 use borrow.Author.Count.{below_more, below_none}
-use lib.ListN.{length, get_or, get_or-eq_default}
-use Rattle.std.proofs.lemmas.Grind.{common_steps}
+use lib.ListN.{length}
 use Rattle.field.specs.declared.Symbol.{Symbol}
-use Rattle.algebra.specs.Symbol.{symbol, 𝟘}
+use Rattle.algebra.specs.Symbol.{symbol}
 use Rattle.codes.specs.Sizes.{none, alpha}
 use Rattle.stripes.specs.Arrays.{symbol_at}
 use Rattle.stripes.proofs.Shapes.{d-most, alpha-most}
@@ -15,11 +13,8 @@ use Rattle.stripes.proofs.Vectors.{symbol-zero}
 use Rattle.stripes.proofs.Grids.{upto-store, along-store, shape-replicate, shape-set2}
 use borrow.Author.Rules.{rules}
 use Rattle.stripes.proofs.shape.Shape.grid_of.Goals as goal
+use Rattle.stripes.proofs.shape.Shape.grid_of.Goals.{in-Some, in-None}
 use Rattle.stripes.proofs.shape.Shape.grid_of.Invariants.{Right}
-
--- past the work room's end there is nothing
-past : (w : List Symbol) (b : ℕ) → length w ≤ b → symbol_at w b ≡ 𝟘
-past w b h = ap (λ (x : Symbol). symbol x.0) (get_or-eq_default w none h) ∙ symbol-zero
 
 pub loop-i-init : goal.loop-i-init
 loop-i-init c = (shape-replicate 31 31 _, below_none _)
@@ -45,9 +40,11 @@ loop-j-preserved c =
     let P = Right s.code room in
     let long : length room ≡ 496 = search rules in
     let low : i < 31 = omega (arith, d-most _ s.sized) in
-    let read : c.unwrap_or.result ≡ get_or room c.place_of.result none = grind (arith, common_steps) in
-    let e : P i l.j c.unwrap_or.result =
-    ap (λ (x : Symbol). symbol x.0) read ∙ c.place_of.ensures (symbol_at room) (past room 496 (omega arith)) in (
+    let e : P i l.j c.match-place_of.symbol =
+    elim c.match-place_of.branch [
+      | in-Some w ↦ ap (λ (x : Symbol). symbol x.0) w.symbol-is ∙ w.in-Some.ensures.1 (symbol_at room)
+      | in-None w ↦ ap (λ (x : Symbol). symbol x.0) w.symbol-is ∙ symbol-zero ∙ sym (w.in-None.ensures (symbol_at room))
+    ] in (
       shape-set2 31 31 l.grid i l.j _ low l.invariant.0,
       upto-store P none (alpha s.code) l.grid i l.j _ l.invariant.1,
       along-store P none l.grid i l.j _ (omega (arith, l.invariant.0.rows))

@@ -3,6 +3,7 @@ use mathlib.Core.Path.{◌≡◌}
 use Prim.Native.Nat.{ℕ}
 use native.Mathlib.Omega.{arith}
 use borrow.Author.Tests.{eq-eqb, ne_eqb}
+use Rattle.std.specs.Prelude.{Option, Some, None}
 use Rattle.codes.specs.Matrix.{mbr, msr, matrix}
 use Rattle.codes.specs.declared.Code.{Code}
 use Rattle.codes.proofs.Sizes.{alpha-one, alpha-two}
@@ -10,14 +11,15 @@ use Rattle.stripes.specs.Arrays.{Placed}
 use Rattle.stripes.proofs.Shapes.{d-most, k-most, kind-two}
 use Rattle.stripes.proofs.shape.Shape.place_of.Goals as goal
 
-module _ (c : Code) (i j r : ℕ) where
-  one : c.kind ≡ 1 → Placed (λ f. mbr c.k c.d f i j) r → Placed (λ f. matrix c f i j) r
+module _ (c : Code) (i j : ℕ) where
+  one : (r : Option ℕ) → c.kind ≡ 1 → Placed (λ f. mbr c.k c.d f i j) r → Placed (λ f. matrix c f i j) r
   unfolding matrix
-  one h p f z = simp (eq-eqb _ _ h) (p f z)
+  one (Some r) h p = (p.0, λ f. simp (eq-eqb _ _ h) (p.1 f))
+  one None h p = λ f. simp (eq-eqb _ _ h) (p f)
 
-  two : (c.kind ≡ 1 → ⊥) → Placed (λ f. msr c.k f i j) r → Placed (λ f. matrix c f i j) r
+  two : (r : ℕ) → (c.kind ≡ 1 → ⊥) → Placed (λ f. msr c.k f i j) (Some r) → Placed (λ f. matrix c f i j) (Some r)
   unfolding matrix
-  two h p f z = simp (ne_eqb _ _ h) (p f z)
+  two r h p = (p.0, λ f. simp (ne_eqb _ _ h) (p.1 f))
 
 pub mbr_place-requires : goal.mbr_place-requires
 mbr_place-requires c =
