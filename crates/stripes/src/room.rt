@@ -44,11 +44,9 @@ impl Shape {
         let mut grid = [[Symbol::ZERO; 31]; 31];
         for i in 0..self.code.d as usize {
             for j in 0..self.code.alpha() {
-                let symbol = match self.place_of(i, j) {
-                    Some(place) => room[place],
-                    None => Symbol::ZERO,
-                };
-                grid[i][j] = symbol;
+                grid[i][j] = self
+                    .place_of(i, j)
+                    .map_or(Symbol::ZERO, |place| room[place]);
             }
         }
         grid

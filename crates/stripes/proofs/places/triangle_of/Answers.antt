@@ -16,13 +16,13 @@ unfolding triangle
 lower w i j r h e = simp (lt-leb _ _ h) (omega arith)
 
 pub returns-then-i-j : goal.returns-then-i-j
-returns-then-i-j c = 
+returns-then-i-j c =
     let s = c.args in
     let e : c.start_of.result + (s.j - s.i) ≡ triangle s.w s.i s.j = upper _ _ _ _ (omega arith) c.start_of.ensures.0 in
     (e, omega (arith, triangle-within s.w s.i s.j (omega arith) (omega arith)))
 
 pub returns-else-i-j : goal.returns-else-i-j
-returns-else-i-j c = 
+returns-else-i-j c =
     let s = c.args in
     let e : c.start_of-else-i-j.result + (s.i - s.j) ≡ triangle s.w s.i s.j = lower _ _ _ _ (omega arith) c.start_of-else-i-j.ensures.0 in
     (e, omega (arith, triangle-within s.w s.i s.j (omega arith) (omega arith)))

@@ -12,9 +12,22 @@ use Rattle.stripes.proofs.Shapes.{d-most, alpha-most}
 use Rattle.stripes.proofs.Vectors.{symbol-zero}
 use Rattle.stripes.proofs.Grids.{upto-store, along-store, shape-replicate, shape-set2}
 use borrow.Author.Rules.{rules}
+use borrow.Author.Tests.{tests}
+use lib.ListN.{get_or}
+use Rattle.std.specs.Prelude.{ℕ, List, Option, Some, None}
+use Rattle.std.specs.Option.{MatchOption}
+use Rattle.algebra.specs.Symbol.{F}
+use Rattle.algebra.specs.Sums.{Vec}
+use Rattle.stripes.specs.Arrays.{Placed}
+use Rattle.codes.specs.Matrix.{matrix}
 use Rattle.stripes.proofs.shape.Shape.grid_of.Goals as goal
-use Rattle.stripes.proofs.shape.Shape.grid_of.Goals.{in-Some, in-None}
 use Rattle.stripes.proofs.shape.Shape.grid_of.Invariants.{Right}
+
+-- what is read of the room where the entry is placed, and 𝟘 where it is not
+entry-read : (room : List Symbol) (x : Symbol) (entry : Vec → F) (o : Option ℕ) → Placed entry o
+    → MatchOption o (x ≡ none) (λ p. x ≡ get_or room p none) → symbol x.0 ≡ entry (symbol_at room)
+entry-read room x entry (Some p) h r = ap (λ (y : Symbol). symbol y.0) r ∙ h.1 (symbol_at room)
+entry-read room x entry None h r = ap (λ (y : Symbol). symbol y.0) r ∙ symbol-zero ∙ sym (h (symbol_at room))
 
 pub loop-i-init : goal.loop-i-init
 loop-i-init c = (shape-replicate 31 31 _, below_none _)
@@ -40,11 +53,9 @@ loop-j-preserved c =
     let P = Right s.code room in
     let long : length room ≡ 496 = search rules in
     let low : i < 31 = omega (arith, d-most _ s.sized) in
-    let e : P i l.j c.match-place_of.symbol =
-    elim c.match-place_of.branch [
-      | in-Some w ↦ ap (λ (x : Symbol). symbol x.0) w.symbol-is ∙ w.in-Some.ensures.1 (symbol_at room)
-      | in-None w ↦ ap (λ (x : Symbol). symbol x.0) w.symbol-is ∙ symbol-zero ∙ sym (w.in-None.ensures (symbol_at room))
-    ] in (
+    let placed : Placed (λ f. matrix s.code f i l.j) c.place_of.result = c.place_of.ensures in
+    let read : MatchOption c.place_of.result (c.map_or.result ≡ none) (λ p. c.map_or.result ≡ get_or room p none) = search (rules, tests) in
+    let e : P i l.j c.map_or.result = entry-read room c.map_or.result (λ f. matrix s.code f i l.j) c.place_of.result placed read in (
       shape-set2 31 31 l.grid i l.j _ low l.invariant.0,
       upto-store P none (alpha s.code) l.grid i l.j _ l.invariant.1,
       along-store P none l.grid i l.j _ (omega (arith, l.invariant.0.rows))
