@@ -1,26 +1,20 @@
 -- A lent row and a lent table of products: sums of products in a loop, and what the row of a node and the right table give.
 --   node_row                      the powers of a node's point are its row
 --   term_is                       one product, as the code has it
---   weighed-none, weighed-step    the sum of products in an accumulator;   weighed-fold   in a fold;   weighed-same   of equal vectors
+--   weighed-none, weighed-step    the sum of products in an accumulator;   weighed-same   of equal vectors
 --   weighed-row                   by a row of symbols and the right table it is the sum of their products
 --   helped-none, helped-is        the two cases of a helper's symbol;   helped-row   by the failed node's row it is the helper's symbol
 --   share-row                     by the node's row the share
 --   encoded-shapeless, -many, -other, -is      the cases of encoding;   encoded-row   by the node's row the share is written
 -- Assumes nothing.
-use mathlib.Core.Path.{◌≡◌, ◌∙◌, refl, sym, ap, ap₂, subst}
+use mathlib.Core.Path.{◌≡◌, ◌∙◌, sym, ap, ap₂}
 use mathlib.Core.Bool.{false, ◌&&◌}
 use mathlib.Core.List.{List}
-use Prim.Native.Nat.{ℕ, zero, suc, ◌+◌, ◌-◌, ◌<◌, ◌≤◌}
+use Prim.Native.Nat.{ℕ, ◌+◌, ◌-◌, ◌<◌, ◌≤◌}
 use native.Mathlib.Omega.{arith}
 use borrow.Author.Tests.{eq-eqb, ne_eqb, le-leb, lt-leb}
 use lib.Bits.{bit_xor}
-use lib.ListN.{length, get_or, take}
-use lib.Seq.{take_all}
-use native.Mathlib.Numerals.{add-one}
-use Rattle.std.specs.List.{fold, zip}
-use Rattle.std.proofs.lemmas.List.Sums.{fold_more}
-use Rattle.std.proofs.lemmas.Slice.Zip.{length-zip, get_or-zip}
-use Rattle.field.specs.declared.Symbol.{Symbol}
+use lib.ListN.{length, get_or}
 use Rattle.field.specs.Tables.{tables, by_table}
 use Rattle.field.proofs.Laws.{by-tables}
 use Rattle.algebra.specs.Symbol.{F, symbol, ◌⊗◌, 𝟘, pow}
@@ -58,24 +52,6 @@ module _ (r w : List ℕ) (f : Vec) where
   weighed-step n x y {acc} e g p q k =
       k ∙ ap (bit_xor acc) (g ∙ ap₂ (λ (a : ℕ) (b : F). (symbol (by_table w a b.val)).val) p q)
       ∙ sum-next n (λ i. symbol (by_table w (get_or r i 0) (f i).val)) e
-
--- one turn of a fold over the row's entries and the bytes of a share
-abbrev pub adds : List ℕ → Symbol → ℕ × ℕ → Symbol
-adds w sum p = record { 0 = bit_xor sum.0 (symbol (by_table w p.0 (symbol p.1).val)).val }
-
-module _ (r w s : List ℕ) (h : length s ≤ length r) where
-  weighed-upto : (i : ℕ) → i ≤ length s → (fold (adds w) none (take i (zip r s))).0 ≡ (weighed i r w (at s)).val
-  weighed-upto zero k = weighed-none r w (at s)
-  weighed-upto (suc i) k =
-      subst (λ (n : ℕ). (fold (adds w) none (take n (zip r s))).0 ≡ (weighed n r w (at s)).val) (add-one i)
-      (ap (λ (x : Symbol). x.0) (fold_more (adds w) none (zip r s) i (0, 0) (omega (arith, length-zip r s))
-      ∙ ap (adds w (fold (adds w) none (take i (zip r s)))) (get_or-zip r s i (0, 0) (omega arith) (omega arith)))
-      ∙ weighed-step r w (at s) i (get_or r i 0) (get_or s i 0) (weighed-upto i (omega arith)) refl refl refl refl)
-
-  pub weighed-fold : (fold (adds w) none (zip r s)).0 ≡ (weighed (length s) r w (at s)).val
-  weighed-fold =
-      ap (λ (l : List (ℕ × ℕ)). (fold (adds w) none l).0) (sym (take_all (length s) (zip r s) (omega (arith, length-zip r s))))
-      ∙ weighed-upto (length s) (omega arith)
 
 pub weighed-same : (n : ℕ) (r w : List ℕ) {f g : Vec} → Same n f g → weighed n r w f ≡ weighed n r w g
 unfolding weighed

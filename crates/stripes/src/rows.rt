@@ -35,8 +35,9 @@ pub fn help_by(row: &[u8; 31], t: &[u8; 768], share: &[u8]) -> Symbol
     if share.len() > 31 {
         return Symbol::ZERO;
     }
-    row.iter().zip(share).fold(
-        Symbol::ZERO,
-        |sum, (entry, byte)| sum.plus(term(*entry, Symbol::of(*byte), t)),
-    )
+    let mut sum = Symbol::ZERO;
+    for (j, byte) in share.iter().enumerate() {
+        sum = sum.plus(term(row[j], Symbol::of(*byte), t));
+    }
+    sum
 }
