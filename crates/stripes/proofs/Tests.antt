@@ -27,7 +27,8 @@ unfolding has
 has-is v [] = refl
 has-is v (x ∷ xs) = ap₂ ◌||◌ (eqb-swap x v) (has-is v xs)
 
-pub repeats-is : (xs zs : List ℕ) (i : ℕ) → drop i zs ≡ xs → list_any (λ (p : ℕ × ℕ). has p.1 (drop (p.0 + 1) zs)) (enumerate_from i xs) ≡ repeats xs
+pub repeats-is : (xs zs : List ℕ) (i : ℕ) → drop i zs ≡ xs
+    → list_any (λ (p : ℕ × ℕ). has p.1 (drop (p.0 + 1) zs)) (enumerate_from i xs) ≡ repeats xs
 unfolding repeats
 repeats-is [] zs i h = refl
 repeats-is (x ∷ xs) zs i h =

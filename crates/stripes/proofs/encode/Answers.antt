@@ -64,10 +64,12 @@ returns-in_err-accepted c =
 
 pub returns-then-message-bytes : goal.returns-then-message-bytes
 returns-then-message-bytes c =
+    let g = c.in_ok-accepted.ensures.answer in
     let e : refused Length ≡ encoded c.args.code c.args.node.0 c.args.message.now c.args.output.now =
     elim c.then-message-bytes.branch [
-      | then-message-bytes-via-then-message-bytes w ↦ no-message _ _ _ _ c.in_ok-accepted.ensures.answer (λ h. w.if-message-bytes.true (h ∙ sym c.bytes.ensures))
-      | then-message-bytes-via-else-message-bytes+then-output-alpha w ↦ no_output _ _ _ _ c.in_ok-accepted.ensures.answer (w.if-message-bytes.false ∙ c.bytes.ensures) (λ h. w.if-output-alpha.true (h ∙ sym w.alpha.ensures))
+      | then-message-bytes-via-then-message-bytes w ↦ no-message _ _ _ _ g (λ h. w.if-message-bytes.true (h ∙ sym c.bytes.ensures))
+      | then-message-bytes-via-else-message-bytes+then-output-alpha w ↦
+          no_output _ _ _ _ g (w.if-message-bytes.false ∙ c.bytes.ensures) (λ h. w.if-output-alpha.true (h ∙ sym w.alpha.ensures))
     ] in
     let u = unchanged _ _ _ _ Length e in
     record { answer = u.0; written = u.1 }

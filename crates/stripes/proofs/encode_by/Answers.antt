@@ -28,7 +28,8 @@ returns-else-message-le496 c =
     let o = c.args.output.now in
     let stays : o ≡ encoded_by s.code r t m o =
     elim c.else-message-le496.branch [
-      | else-message-le496-via-then-message-le496+else-output-alpha w ↦ encoded-other _ _ _ _ _ s.known s.sized w.if-message-le496.true (λ h. w.if-output-alpha.false (h ∙ ap alpha e ∙ sym w.alpha.ensures))
+      | else-message-le496-via-then-message-le496+else-output-alpha w ↦
+          encoded-other _ _ _ _ _ s.known s.sized w.if-message-le496.true (λ h. w.if-output-alpha.false (h ∙ ap alpha e ∙ sym w.alpha.ensures))
       | else-message-le496-via-else-message-le496 w ↦ encoded-many _ _ _ _ _ s.known s.sized w.if-message-le496.false
     ] in
     stays ∙ ap (λ (k : Code). encoded_by k r t m o) e

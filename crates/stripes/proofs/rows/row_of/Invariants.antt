@@ -7,4 +7,5 @@ use Rattle.stripes.proofs.rows.row_of.Given as goal
 
 abbrev pub invariant-loop-byte : goal.invariant-loop-byte
 invariant-loop-byte l =
-    (length l.byte-items ≡ 31) × (l.power.0 ≡ (pow (symbol l.x.0) l.byte-index).val) × ((e : ℕ) → e < l.byte-index → get_or l.byte-items e 0 ≡ (pow (symbol l.x.0) e).val)
+    (length l.byte-items ≡ 31) × (l.power.0 ≡ (pow (symbol l.x.0) l.byte-index).val)
+    × ((e : ℕ) → e < l.byte-index → get_or l.byte-items e 0 ≡ (pow (symbol l.x.0) e).val)
