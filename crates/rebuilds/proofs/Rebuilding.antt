@@ -48,9 +48,8 @@ module _ (c : Code) (f : ℕ) (hs ys ns : List ℕ) (room : ℕ) where
   tested e o l =
       e ∙ ap (λ (n : ℕ). answered (ladder c (Long c hs ys ns n) (Known c f hs) (Twice f hs) (differ ns)) (pair_in c) 0) (sym l)
 
-  pub stops-judge : {A : Type 0} {j : Result A Refusal} {r : Refusal} → j ≡ Err r → say_judged j ≡ judged c → Tested (refused r)
-  stops-judge {A} {j} {r} g e =
-      tested (by-judge c (Long c hs ys ns room) (Known c f hs) (Twice f hs) (differ ns) r (sym (ap say_judged g) ∙ e))
+  pub stops-judge : (r : Refusal) → refused r ≡ judged c → Tested (refused r)
+  stops-judge r e = tested (by-judge c (Long c hs ys ns room) (Known c f hs) (Twice f hs) (differ ns) r e)
 
   module _ (good : done 0 ≡ judged c) where
     pub stops-length : Long c hs ys ns room ≡ false → Tested (refused Length)
@@ -74,14 +73,14 @@ module _ (c : Code) (f : ℕ) (hs ys ns : List ℕ) (room : ℕ) where
 -- ---- from the tests to the rebuild
 
 module _ (c : Code) (f : ℕ) (hs ys ns o : List ℕ) where
-  module _ {A : Type 0} {j : Result A Refusal} {r : Refusal} (g : j ≡ Err r) (e : say_judged j ≡ answered (rebuild_reasons c f hs ys ns o) (pair_in c) 0) where
+  module _ (r : Refusal) (e : refused r ≡ answered (rebuild_reasons c f hs ys ns o) (pair_in c) 0) where
     pub refused-is : refused r ≡ rebuild_told c f hs ys ns o
     unfolding rebuild_told
-    refused-is = refused-told (rebuild_reasons c f hs ys ns o) (pair_in c) r (sym (ap say_judged g) ∙ e) (get_or ns 0 0)
+    refused-is = refused-told (rebuild_reasons c f hs ys ns o) (pair_in c) r e (get_or ns 0 0)
 
     pub refused-stays : o ≡ rebuild_leaves c f hs ys ns o
     unfolding rebuild_leaves
-    refused-stays = refused-leaves (rebuild_reasons c f hs ys ns o) (pair_in c) r (sym (ap say_judged g) ∙ e) (rebuilt c f hs ys) o
+    refused-stays = refused-leaves (rebuild_reasons c f hs ys ns o) (pair_in c) r e (rebuilt c f hs ys) o
 
   pub record Passed : Type 0 where
     pub rules : Rules c

@@ -159,11 +159,10 @@ pub plan-none : (c : Code) (f : ℕ) (hs : List ℕ) → 31 < c.d → replicate 
 unfolding plan_of
 plan-none c f hs h = rows-zero 31 31 (λ t j p q. plan-many c f hs t j h)
 
--- ---- one weight, as the lent table computes it
+-- ---- one weight
 
-pub joined-val : (a l b : ℕ) → a < 256 → l < 256 → b < 256 → bit_xor a (by_table tables l b) ≡ (symbol a ⊕ symbol l ⊗ symbol b).val
-joined-val a l b ha hl hb =
-    ap₂ bit_xor (sym (val-symbol ha)) (by-tables l b hl hb ∙ mul_val l b) ∙ sym (val-add (symbol a) (symbol l ⊗ symbol b))
+pub joined-val : (a l b : ℕ) → a < 256 → bit_xor a (Field.mul l b) ≡ (symbol a ⊕ symbol l ⊗ symbol b).val
+joined-val a l b h = ap₂ bit_xor (sym (val-symbol h)) (mul_val l b) ∙ sym (val-add (symbol a) (symbol l ⊗ symbol b))
 
 pub folded-none : (a : ℕ) (l : F) (v : Vec) (j : ℕ) → a ≤ j → 0 ≡ (folded a l v j).val
 unfolding folded 𝟘

@@ -6,6 +6,7 @@ ghost use Rattle.rebuilds.specs.Plan.{plan_of, applied};
 ghost use Rattle.rebuilds.specs.Rebuild.{rebuild_told, rebuild_leaves, say_counted};
 
 use codes::{Code, Node, Refusal};
+use field::Products;
 
 mod inputs; // inputs.rt: the tests of a rebuild's inputs
 pub mod points; // points.rt: the points of a list of nodes
@@ -22,25 +23,19 @@ pub fn plan(code: Code, failed: Node, nodes: &[u8]) -> Plan
     if d > 31 {
         return [[0u8; 31]; 31];
     }
-    let places = code.points;
-    let solved = solver::basis(points::points_of(places, nodes), d);
-    weigh::fold(code, failed.0, solved)
+    let solved = solver::basis(points::points_of(code.points, nodes), d);
+    weigh::fold(code, failed, solved)
 }
 
 // A stripe rebuilt by a plan and a lent table of products: each byte is the sum of the symbols times their weights.
 pub fn rebuild_by(plan: &Plan, t: &[u8; 768], symbols: &[u8], output: &mut [u8])
     ensures { output.new ≡ applied plan.now t.now symbols.now output.old }
 {
-    if symbols.len() > 31 {
+    if symbols.len() > 31 || output.len() > 31 {
         return;
     }
-    if output.len() > 31 {
-        return;
-    }
-    let mut j: usize = 0;
-    while j < output.len() {
-        output[j] = weigh::weighed(plan, t, symbols, j);
-        j += 1;
+    for (j, byte) in output.iter_mut().enumerate() {
+        *byte = weigh::weighed(plan, t, symbols, j);
     }
 }
 
@@ -56,10 +51,9 @@ pub fn rebuild(
     ensures answer { say_counted result ≡ rebuild_told code failed.0 nodes.now symbols.now counts.now output.old }
     ensures written { output.new ≡ rebuild_leaves code failed.0 nodes.now symbols.now counts.now output.old }
 {
-    inputs::judge_rebuild(code, failed.0, nodes, symbols, counts, output.len())?;
-    let p = plan(code, failed, nodes);
-    let t = field::tables();
-    rebuild_by(&p, &t, symbols, output);
-    let count = counts[0];
-    Ok(count)
+    let accepted = inputs::judge_rebuild(code, failed.0, nodes, symbols, counts, output.len())?;
+    let p = plan(accepted.code, failed, nodes);
+    let t = Products::new();
+    rebuild_by(&p, &t.bytes, symbols, output);
+    Ok(counts[0])
 }

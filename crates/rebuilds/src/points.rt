@@ -9,23 +9,7 @@ use field::Symbol;
 pub fn point_of(points: [Symbol; 32], v: u8) -> u8
     ensures { result ≡ point_in points v }
 {
-    if v == 0 {
-        return points[0].0;
-    }
-    if v > 32 {
-        return 0;
-    }
-    points[(v - 1) as usize].0
-}
-
-// The node at a place; node 0 past the end of the list.
-fn node_at(nodes: &[u8], i: usize) -> u8
-    ensures { result ≡ get_or nodes.now i 0 }
-{
-    if i < nodes.len() {
-        return nodes[i];
-    }
-    0
+    points.get(v.saturating_sub(1) as usize).map_or(0, |x| x.0)
 }
 
 // The points of the first 31 nodes of a list.
@@ -33,10 +17,8 @@ pub fn points_of(points: [Symbol; 32], nodes: &[u8]) -> [u8; 31]
     ensures { result ≡ table 31 (points_in points nodes.now) }
 {
     let mut xs = [0u8; 31];
-    let mut i: usize = 0;
-    while i < 31 {
-        xs[i] = point_of(points, node_at(nodes, i));
-        i += 1;
+    for (i, x) in xs.iter_mut().enumerate() {
+        *x = point_of(points, nodes.get(i).copied().unwrap_or(0));
     }
     xs
 }

@@ -8,4 +8,4 @@ returns-then-code-eq1 c = factor-none _ _ c.if-code-eq1.true
 pub returns : goal.returns
 returns c =
     let s = c.args in
-    cc (factor-power s.code s.failed c.if-code-eq1.false)
+    cc (factor-power s.code s.failed.0 c.if-code-eq1.false)

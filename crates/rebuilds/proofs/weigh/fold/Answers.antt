@@ -9,12 +9,12 @@ use Rattle.rebuilds.proofs.Weighing.{rows_none, rows_more, folded-whole}
 use Rattle.rebuilds.proofs.weigh.fold.Goals as goal
 
 pub loop-u-init : goal.loop-u-init
-loop-u-init c = (search rules, rows_none _)
+loop-u-init c = rows_none _
 
 pub loop-u-preserved : goal.loop-u-preserved
 loop-u-preserved c =
     let l = c.loop-u in
-    (search rules, ap (λ (p : List (List ℕ)). set p l.u c.weights.result) l.invariant.1 ∙ rows_more _ l.u _ (search rules) c.weights.ensures)
+    ap (λ (p : List (List ℕ)). set p l.u c.weights.result) l.invariant ∙ rows_more _ l.u _ (search rules) c.weights.ensures
 
 pub returns : goal.returns
-returns c = c.loop-u.invariant.1 ∙ folded-whole _ _ _ _ _ _ c.alpha-a.ensures c.factor_of-l.ensures (omega arith)
+returns c = c.loop-u.invariant ∙ folded-whole _ _ _ _ _ _ c.alpha-a.ensures c.factor_of-l.ensures (omega arith)

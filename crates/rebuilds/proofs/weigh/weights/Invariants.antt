@@ -1,5 +1,4 @@
 -- `rebuilds::weigh::weights` meets its contract: before turn j, j places hold their weights.
-use Prim.Native.Nat.{◌-◌, ◌≤◌}
 use Rattle.algebra.specs.Symbol.{symbol}
 use Rattle.algebra.specs.Bytes.{at}
 use Rattle.rebuilds.specs.Weights.{folded}
@@ -7,7 +6,4 @@ use Rattle.rebuilds.proofs.Filling.{Filling}
 use Rattle.rebuilds.proofs.weigh.weights.Given as goal
 
 abbrev pub invariant-loop-j : goal.invariant-loop-j
-invariant-loop-j l = (l.j ≤ 31) × Filling 31 (folded l.a (symbol l.l) (at l.row)) l.w l.j
-
-abbrev pub decreases-loop-j : goal.decreases-loop-j
-decreases-loop-j l = 31 - l.j
+invariant-loop-j l = Filling 31 (folded l.a (symbol l.l.0) (at l.row)) l.x-items l.j
