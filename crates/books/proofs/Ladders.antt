@@ -10,15 +10,13 @@ use lib.ListN.{length}
 use borrow.Author.Tests.{eq-eqb, ne_eqb, leb-true, not-false}
 use Rattle.codes.specs.Told.{Reason, refused, done, answered}
 use Rattle.codes.specs.Reasons.{Clear, numbered}
-use Rattle.codes.specs.Rules.{Rules}
 use Rattle.codes.specs.Sizes.{bytes}
-use Rattle.codes.specs.Judge.{known, sized, pointed, marks, judge_reasons, judged, pair_in}
+use Rattle.codes.specs.Judge.{sized, pair_in}
 use Rattle.codes.specs.declared.Code.{Code}
 use Rattle.codes.specs.declared.Refusal.{Refusal}
 use Rattle.codes.specs.declared.Refusal.TheVariants.{Length, Node, Repeat}
 use Rattle.codes.proofs.Bools.{both, and_right, apart}
 use Rattle.codes.proofs.Told.{refused-first, answered-skip, answered-hand-on, answered-goes-on, done-clear, clear-done}
-use Rattle.codes.proofs.Rules.{rules}
 use Rattle.stripes.specs.Lists.{within}
 use Rattle.shares.specs.Fields.{code_in, node_in, stripes_in, count_in, stripe_at}
 use Rattle.shares.specs.File.{totalled, file_reasons}
@@ -62,47 +60,39 @@ module _ (c : Code) (v t : ℕ) (book o : List ℕ) where
   code-good e = done-clear J (pair_in c) 0 0 j-numbered e
 
   module _ (h : Clear J) where
-    tests : (not (known c.kind) ≡ false) × (not (sized c) ≡ false) × (not (totalled t) ≡ false) × (not (pointed (marks c) c.points c.n) ≡ false)
-    unfolding code_reasons
-    tests = let n = neither (not (sized c)) (not (totalled t)) h.1.0 in (h.0, n.0, n.1, h.1.1.0)
-
-    pub cut-rules : Rules c
-    unfolding judged judge_reasons
-    cut-rules = let q = tests in rules c (clear-done (judge_reasons c) (pair_in c) 0 (q.0, (q.1, (q.3, tt))))
-
     pub cut-total : t ≤ 1024
-    cut-total = leb-true t 1024 (and_right (leb 1 t) (leb t 1024) (not-false _ tests.2))
+    unfolding code_reasons
+    cut-total = leb-true t 1024 (and_right (leb 1 t) (leb t 1024) (not-false _ (neither (not (sized c)) (not (totalled t)) h.1.0).1))
 
-    module _ where
-      lengths-out : (eqb (length book) (t * bytes c) && eqb (length o) (stripe_at t)) ≡ false → (refused Length ≡ cut_told c v t book o) × (o ≡ cut_leaves c v t book o)
+    lengths-out : (eqb (length book) (t * bytes c) && eqb (length o) (stripe_at t)) ≡ false → (refused Length ≡ cut_told c v t book o) × (o ≡ cut_leaves c v t book o)
+    unfolding cut_reasons
+    lengths-out e = cut-says Length (refused-first Length _ (pair_in c) 0 (λ z. omega arith) (ap not e) ∙ sym (answered-goes-on J _ (pair_in c) 0 h))
+
+    pub cut-book : (length book ≡ t * bytes c → ⊥) → (refused Length ≡ cut_told c v t book o) × (o ≡ cut_leaves c v t book o)
+    cut-book n = lengths-out (out-left _ _ (ne_eqb _ _ n))
+
+    pub cut-output : (length o ≡ stripe_at t → ⊥) → (refused Length ≡ cut_told c v t book o) × (o ≡ cut_leaves c v t book o)
+    cut-output n = lengths-out (out-right (eqb (length book) (t * bytes c)) _ (ne_eqb _ _ n))
+
+    module _ (p : length book ≡ t * bytes c) (q : length o ≡ stripe_at t) where
+      fit : (eqb (length book) (t * bytes c) && eqb (length o) (stripe_at t)) ≡ true
+      fit = both _ _ (eq-eqb _ _ p) (eq-eqb _ _ q)
+
+      pub cut-node : within c v ≡ false → (refused Node ≡ cut_told c v t book o) × (o ≡ cut_leaves c v t book o)
       unfolding cut_reasons
-      lengths-out e = cut-says Length (refused-first Length _ (pair_in c) 0 (λ z. omega arith) (ap not e) ∙ sym (answered-goes-on J _ (pair_in c) 0 h))
+      cut-node e =
+          cut-says Node
+          (refused-first Node _ (pair_in c) 0 (λ z. omega arith) (ap not e) ∙ sym (answered-skip 5 _ (pair_in c) 0 (ap not fit))
+          ∙ sym (answered-goes-on J _ (pair_in c) 0 h))
 
-      pub cut-book : (length book ≡ t * bytes c → ⊥) → (refused Length ≡ cut_told c v t book o) × (o ≡ cut_leaves c v t book o)
-      cut-book n = lengths-out (out-left _ _ (ne_eqb _ _ n))
+      cut-clear : within c v ≡ true → Clear (cut_reasons c v t book o)
+      unfolding cut_reasons
+      cut-clear w = clear-append J _ h (ap not fit, (ap not w, tt))
 
-      pub cut-output : (length o ≡ stripe_at t → ⊥) → (refused Length ≡ cut_told c v t book o) × (o ≡ cut_leaves c v t book o)
-      cut-output n = lengths-out (out-right (eqb (length book) (t * bytes c)) _ (ne_eqb _ _ n))
-
-      module _ (p : length book ≡ t * bytes c) (q : length o ≡ stripe_at t) where
-        fit : (eqb (length book) (t * bytes c) && eqb (length o) (stripe_at t)) ≡ true
-        fit = both _ _ (eq-eqb _ _ p) (eq-eqb _ _ q)
-
-        pub cut-node : within c v ≡ false → (refused Node ≡ cut_told c v t book o) × (o ≡ cut_leaves c v t book o)
-        unfolding cut_reasons
-        cut-node e =
-            cut-says Node
-            (refused-first Node _ (pair_in c) 0 (λ z. omega arith) (ap not e) ∙ sym (answered-skip 5 _ (pair_in c) 0 (ap not fit))
-            ∙ sym (answered-goes-on J _ (pair_in c) 0 h))
-
-        cut-clear : within c v ≡ true → Clear (cut_reasons c v t book o)
-        unfolding cut_reasons
-        cut-clear w = clear-append J _ h (ap not fit, (ap not w, tt))
-
-        pub cut-done : within c v ≡ true → (w : List ℕ) → w ≡ afresh c v t 0 book → (done 0 ≡ cut_told c v t book o) × (w ≡ cut_leaves c v t book o)
-        unfolding cut_told cut_leaves
-        cut-done e w g =
-            (sym (clear-done (cut_reasons c v t book o) (pair_in c) 0 (cut-clear e)), g ∙ left-done (cut_reasons c v t book o) (afresh c v t 0 book) o (cut-clear e))
+      pub cut-done : within c v ≡ true → (w : List ℕ) → w ≡ afresh c v t 0 book → (done 0 ≡ cut_told c v t book o) × (w ≡ cut_leaves c v t book o)
+      unfolding cut_told cut_leaves
+      cut-done e w g =
+          (sym (clear-done (cut_reasons c v t book o) (pair_in c) 0 (cut-clear e)), g ∙ left-done (cut_reasons c v t book o) (afresh c v t 0 book) o (cut-clear e))
 
 -- ---- answering for a failed node
 
@@ -135,19 +125,19 @@ module _ (s : List ℕ) (f : ℕ) (o : List ℕ) where
           ∙ sym (answered-goes-on (file_reasons s) _ Pair 0 h))
 
       module _ (w : within (code_in s) f ≡ true) where
-        pub answer-repeat : f ≡ node_in s → (refused Repeat ≡ answer_told s f o) × (o ≡ answer_leaves s f o)
+        pub answer-repeat : eqb f (node_in s) ≡ true → (refused Repeat ≡ answer_told s f o) × (o ≡ answer_leaves s f o)
         unfolding answer_reasons
         answer-repeat e =
             answer-says Repeat
-            (refused-first Repeat _ Pair 0 (λ z. omega arith) (eq-eqb _ _ e)
+            (refused-first Repeat _ Pair 0 (λ z. omega arith) e
             ∙ sym (answered-skip 5 _ Pair 0 (ap not (eq-eqb _ _ p)) ∙ answered-skip 6 _ Pair 0 (ap not w))
             ∙ sym (answered-goes-on (file_reasons s) _ Pair 0 h))
 
-        answer-clear : (f ≡ node_in s → ⊥) → Clear (answer_reasons s f o)
+        answer-clear : eqb f (node_in s) ≡ false → Clear (answer_reasons s f o)
         unfolding answer_reasons
-        answer-clear n = clear-append (file_reasons s) _ h (ap not (eq-eqb _ _ p), (ap not w, (ne_eqb _ _ n, tt)))
+        answer-clear n = clear-append (file_reasons s) _ h (ap not (eq-eqb _ _ p), (ap not w, (n, tt)))
 
-        pub answer-done : (f ≡ node_in s → ⊥) → (x : List ℕ) → x ≡ After → (done 0 ≡ answer_told s f o) × (x ≡ answer_leaves s f o)
+        pub answer-done : eqb f (node_in s) ≡ false → (x : List ℕ) → x ≡ After → (done 0 ≡ answer_told s f o) × (x ≡ answer_leaves s f o)
         unfolding answer_told answer_leaves
         answer-done n x g =
             (sym (clear-done (answer_reasons s f o) Pair 0 (answer-clear n)), g ∙ left-done (answer_reasons s f o) After o (answer-clear n))

@@ -2,3 +2,4 @@
 pub mod Sheet
 pub mod Ladders
 pub mod Settled
+pub mod Judged

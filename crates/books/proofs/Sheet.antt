@@ -1,17 +1,15 @@
 -- A share file and a helper's answers, as they are written record by record.
---   room                the stripe i of a book lies within it
 --   Sheet c v t book i  the file's bytes with its first i stripes
 --   sheet-start, sheet-next, sheet-end     C and N, one stripe more, the whole file
 --   answers-more        one answer more at the end
 --   answers-start, answers_next, answers-end     no answer, one answer more, all answers
 -- Assumes nothing.
 use mathlib.Core.Path.{◌≡◌, ◌∙◌, refl, sym, ap, ap₂}
-use mathlib.Core.List.{List, [], ◌∷◌, ◌++◌, append_assoc}
-use Prim.Native.Nat.{ℕ, zero, suc, ◌+◌, ◌*◌, ◌-◌, ◌<◌, ◌≤◌}
-use native.Mathlib.Nat.{suc-mul}
+use mathlib.Core.List.{List, [], ◌∷◌, ◌++◌, append-nil, append_assoc}
+use Prim.Native.Nat.{ℕ, zero, suc, ◌+◌, ◌*◌, ◌-◌, ◌≤◌}
 use native.Mathlib.Omega.{arith}
-use lib.ListN.{length, take, drop, length-append, length-drop}
-use lib.Seq.{take_all, take_at, length-take-le}
+use lib.ListN.{length, take, drop, length-append}
+use lib.Seq.{take_all}
 use Rattle.records.specs.Numbers.{digits}
 use Rattle.records.specs.Writing.{put_at}
 use Rattle.records.proofs.Digits.{length_digits}
@@ -19,18 +17,10 @@ use Rattle.records.proofs.Runs.{length-put, take_put}
 use Rattle.codes.specs.Sizes.{alpha}
 use Rattle.codes.specs.Share.{share, symbol_for}
 use Rattle.codes.specs.declared.Code.{Code}
-use Rattle.codes.proofs.Sizes.{small}
 use Rattle.shares.specs.Fields.{code_record, node_record, stripe_record, help_record, node_in, count_in, share_in, stripe_at}
 use Rattle.shares.specs.Afresh.{stripe_of, stripes_from, afresh}
 use Rattle.shares.proofs.Fresh.{stripes-more}
 use Rattle.books.specs.Answer.{answers_from}
-
-append-nil : (l : List ℕ) → l ++ [] ≡ l
-append-nil [] = refl
-append-nil (x ∷ l) = ap (λ (k : List ℕ). x ∷ k) (append-nil l)
-
-pub room : (i n b : ℕ) → i < n → i * b + b ≤ n * b
-room i n b h = omega (arith, suc-mul i b, small (suc i) b n b h (omega arith))
 
 -- one record more at the end of what stands
 record-next : (out t r front : List ℕ) (at n : ℕ) → take at out ≡ front → length r ≡ n → at + n ≤ length out → t ≡ put_at out at r → take (at + n) t ≡ front ++ r
@@ -46,28 +36,12 @@ unfolding help_record
 help-length f h m i y =
     omega (arith, length-append (digits 4 m) (digits 2 i ++ (y ∷ [])), length-append (digits 2 i) (y ∷ []), length_digits 4 m, length_digits 2 i)
 
--- ---- parts of runs
-
-pub part-long : (s : List ℕ) (start a n : ℕ) → start + a ≤ length s → a ≡ n → length (take (start + a - start) (drop start s)) ≡ n
-part-long s start a n h e =
-    let k : start + a - start ≡ a = omega arith in
-    ap (λ (i : ℕ). length (take i (drop start s))) k ∙ length-take-le a (drop start s) (omega (arith, length-drop start s)) ∙ e
+-- a stripe of a book
 
 pub message-is : (book : List ℕ) (i b n : ℕ) → b ≡ n → take (i * b + b - i * b) (drop (i * b) book) ≡ take n (drop (i * n) book)
 message-is book i b n e =
     let k : i * b + b - i * b ≡ b = omega arith in
     ap (λ (j : ℕ). take j (drop (i * b) book)) k ∙ ap (λ (j : ℕ). take j (drop (i * j) book)) e
-
-module _ (w z : List ℕ) (a : ℕ) (e : length w ≡ a) where
-  pub prefix-fits : a ≤ length (w ++ drop a z)
-  prefix-fits = omega (arith, length-append w (drop a z))
-
-  pub prefix-long : a ≡ length (take a (w ++ drop a z))
-  prefix-long = sym (ap length (take_at w (drop a z) a e) ∙ e)
-
-  pub stripe-whole : (r s : List ℕ) (i : ℕ) → a ≤ 31 → w ≡ s → r ≡ stripe_record i (take 31 (take a (w ++ drop a z))) → r ≡ stripe_record i s
-  stripe-whole r s i h f g =
-      g ∙ ap (λ (l : List ℕ). stripe_record i (take 31 l)) (take_at w (drop a z) a e) ∙ ap (stripe_record i) (take_all 31 w (omega arith) ∙ f)
 
 -- ---- a share file
 

@@ -1,67 +1,33 @@
 // What a station answers for a failed node: one H record for each stripe of its share file.
-ghost use Rattle.std.specs.Prelude.{◌≡◌, ◌+◌, ◌*◌, ◌<◌, length};
-ghost use Rattle.codes.specs.Rules.{Rules};
-ghost use Rattle.field.specs.Tables.{tables};
+ghost use Rattle.std.specs.Prelude.{◌≡◌, ◌*◌, length, Ok};
 ghost use Rattle.stripes.specs.Encode.{say_encoded};
-ghost use Rattle.stripes.specs.Lent.{row_bytes};
-ghost use Rattle.shares.specs.Fields.{code_in, node_in, count_in, stripe_at};
+ghost use Rattle.shares.specs.Fields.{code_in};
+ghost use Rattle.shares.specs.File.{file_reasons, Says};
 ghost use Rattle.books.specs.Answer.{answers_from, answer_told, answer_leaves};
 
-use codes::{Code, Node, Refusal};
-use field::tables;
+use crate::row::Row;
+use codes::{Accepted, Node, Refusal};
 use records::writing::put;
 use shares::{Filed, code_in, help_record, judge_file, stripe_at};
 use stripes::lists::is_within;
-use stripes::{help_by, row};
 
-// The H records of all stripes over an output of their length, by the failed node's row and the table of products.
-fn answers_by(
-    file: &[u8],
-    code: Code,
-    helper: Node,
-    failed: Node,
-    count: u32,
-    stripes: u16,
-    row: &[u8; 31],
-    t: &[u8; 768],
-    output: &mut [u8],
-)
-    requires { Rules code × (length file.now ≡ stripe_at stripes) × (length output.old ≡ stripes * 10) × (code ≡ code_in file.now) × (helper.0 ≡ node_in file.now) × (count ≡ count_in file.now) × (row.now ≡ row_bytes code failed.0) × (t.now ≡ tables) }
-    ensures { output.new ≡ answers_from (code_in file.now) file.now failed.0 0 stripes }
+// The H records of all stripes of an accepted file, by the failed node's row, over an output of their length.
+fn write_answers(file: &[u8], filed: Filed, row: &Row, output: &mut [u8])
+    requires judged { Says (file_reasons file.now) file.now (Ok filed) }
+    requires code { row.now.accepted.code ≡ code_in file.now }
+    requires room { length output.old ≡ filed.stripes * 10 }
+    ensures { output.new ≡ answers_from (code_in file.now) file.now row.now.node.0 0 filed.stripes }
 {
-    let a = code.alpha();
-    let mut i: u16 = 0;
-    while i < stripes {
+    let a = row.accepted.code.alpha();
+    for i in 0..filed.stripes {
         let start = stripe_at(i) + 3;
-        let end = start + a;
-        let symbol = help_by(row, t, &file[start..end]);
+        let symbol = row.symbol(&file[start..start + a]);
         put(
             output,
-            (i as usize) * 10,
-            &help_record(failed, helper, count, i, symbol),
+            i as usize * 10,
+            &help_record(row.node, filed.node, filed.count, i, symbol),
         );
-        i += 1;
     }
-}
-
-// The H records of all stripes. The row and the table are made once.
-fn write_answers(
-    file: &[u8],
-    code: Code,
-    helper: Node,
-    failed: Node,
-    count: u32,
-    stripes: u16,
-    output: &mut [u8],
-)
-    requires { Rules code × (length file.now ≡ stripe_at stripes) × (length output.old ≡ stripes * 10) × (code ≡ code_in file.now) × (helper.0 ≡ node_in file.now) × (count ≡ count_in file.now) }
-    ensures { output.new ≡ answers_from (code_in file.now) file.now failed.0 0 stripes }
-{
-    let t = tables();
-    let powers = row(code, failed);
-    answers_by(
-        file, code, helper, failed, count, stripes, &powers, &t, output,
-    );
 }
 
 // Judges the file, then writes its answers for the failed node.
@@ -69,21 +35,18 @@ pub fn answer_for(file: &[u8], failed: Node, output: &mut [u8]) -> Result<(), Re
     ensures told { say_encoded result ≡ answer_told file.now failed.0 output.old }
     ensures left { output.new ≡ answer_leaves file.now failed.0 output.old }
 {
-    let Filed {
-        node,
-        stripes,
-        count,
-    } = judge_file(file)?;
-    if output.len() != (stripes as usize) * 10 {
+    let filed = judge_file(file)?;
+    if output.len() != filed.stripes as usize * 10 {
         return Err(Refusal::Length);
     }
     let code = code_in(file);
     if !is_within(code, failed.0) {
         return Err(Refusal::Node);
     }
-    if failed == node {
+    if failed == filed.node {
         return Err(Refusal::Repeat);
     }
-    write_answers(file, code, node, failed, count, stripes, output);
+    let row = Row::new(Accepted { code }, failed);
+    write_answers(file, filed, &row, output);
     Ok(())
 }

@@ -1,103 +1,71 @@
 -- `cutting::cut` meets its contract: each refusal is the first reason that holds, and else the file is written.
 -- Assumes nothing.
-use mathlib.Core.Path.{◌∙◌, sym, ap}
+use mathlib.Core.Path.{◌∙◌, sym, ap, ap₂, subst}
 use Prim.Native.Nat.{ℕ, ◌*◌}
 use native.Mathlib.Omega.{arith}
-use Rattle.codes.specs.Judge.{say_judged}
+use Rattle.codes.specs.Rules.{Rules}
+use Rattle.codes.specs.declared.Code.{Code}
+use Rattle.codes.specs.declared.Node.{Node}
+use Rattle.codes.proofs.Told.{handed-on}
 use Rattle.codes.proofs.Sizes.{bytes_high, small}
-use Rattle.books.proofs.Ladders.{cut-code, code-good, cut-rules, cut-total, cut-book, cut-output, cut-node, cut-done}
+use Rattle.shares.specs.Afresh.{afresh}
+use Rattle.books.proofs.Ladders.{cut-code, code-good, cut-total, cut-book, cut-output, cut-node, cut-done}
+use Rattle.books.proofs.cutting.cut.Goals.{then-book-stripes-via-then-book-stripes, then-book-stripes-via-else-book-stripes+then-output-stripe_at}
 use Rattle.books.proofs.cutting.cut.Goals as goal
 
-pub returns-in-Refused : goal.returns-in-Refused
-returns-in-Refused c =
+pub returns-in_err-accepted : goal.returns-in_err-accepted
+returns-in_err-accepted c =
     let a = c.args in
-    let u = cut-code a.code a.node.0 a.stripes a.book.now a.output.now c.in-Refused.r
-    (ap say_judged (sym c.in-Refused.is) ∙ c.judge_total-judged.ensures) in
-    record { told = u.0; left = u.1 }
+    let u = cut-code a.code a.node.0 a.stripes a.book.now a.output.now _ c.in_err-accepted.ensures.answer in
+    record { told = handed-on _ c.from_residual.result _ c.from_residual.ensures.1 u.0; left = u.1 }
 
 pub overflow_cast-total : goal.overflow_cast-total
 overflow_cast-total c =
     let a = c.args in
-    let code = a.code in
-    let v = a.node.0 in
-    let t = a.stripes in
-    let k = a.book.now in
-    let o = a.output.now in
-    let h = code-good code v t k o (ap say_judged (sym c.in_default.is) ∙ c.judge_total-judged.ensures) in
-    omega (arith, cut-total code v t k o h)
+    let h = code-good a.code a.node.0 a.stripes a.book.now a.output.now c.in_ok-accepted.ensures.answer in
+    omega (arith, cut-total a.code a.node.0 a.stripes a.book.now a.output.now h)
 
 pub overflow_mul-stripes : goal.overflow_mul-stripes
 overflow_mul-stripes c =
     let a = c.args in
-    let code = a.code in
-    let v = a.node.0 in
-    let t = a.stripes in
-    let k = a.book.now in
-    let o = a.output.now in
-    let h = code-good code v t k o (ap say_judged (sym c.in_default.is) ∙ c.judge_total-judged.ensures) in
-    omega (arith, small t c.bytes.result 1024 496 (cut-total code v t k o h) (omega (arith, c.bytes.ensures, bytes_high code (cut-rules code v t k o h))))
+    let h = code-good a.code a.node.0 a.stripes a.book.now a.output.now c.in_ok-accepted.ensures.answer in
+    let r = subst Rules c.in_ok-accepted.ensures.same c.in_ok-accepted.accepted.rules in
+    omega (arith, small a.stripes c.bytes.result 1024 496 (cut-total a.code a.node.0 a.stripes a.book.now a.output.now h) (omega (arith, c.bytes.ensures, bytes_high a.code r)))
 
 pub returns-then-book-stripes : goal.returns-then-book-stripes
 returns-then-book-stripes c =
     let a = c.args in
-    let code = a.code in
-    let v = a.node.0 in
-    let t = a.stripes in
-    let k = a.book.now in
-    let o = a.output.now in
-    let h = code-good code v t k o (ap say_judged (sym c.in_default.is) ∙ c.judge_total-judged.ensures) in
-    let u = cut-book code v t k o h (λ e. c.if-book-stripes.true (e ∙ ap (λ (n : ℕ). t * n) (sym c.bytes.ensures))) in
-    record { told = u.0; left = u.1 }
+    let h = code-good a.code a.node.0 a.stripes a.book.now a.output.now c.in_ok-accepted.ensures.answer in
+    elim c.then-book-stripes.branch [
+      | then-book-stripes-via-then-book-stripes w ↦
+          let u = cut-book a.code a.node.0 a.stripes a.book.now a.output.now h (λ e. w.if-book-stripes.true (e ∙ ap (λ (n : ℕ). a.stripes * n) (sym c.bytes.ensures))) in
+          record { told = u.0; left = u.1 }
+      | then-book-stripes-via-else-book-stripes+then-output-stripe_at w ↦
+          let u = cut-output a.code a.node.0 a.stripes a.book.now a.output.now h (λ e. w.if-output-stripe_at.true (e ∙ sym w.stripe_at.ensures.0)) in
+          record { told = u.0; left = u.1 }
+    ]
 
-pub returns-then-output-stripe_at : goal.returns-then-output-stripe_at
-returns-then-output-stripe_at c =
+pub returns-then-not-is_within : goal.returns-then-not-is_within
+returns-then-not-is_within c =
     let a = c.args in
-    let code = a.code in
-    let v = a.node.0 in
-    let t = a.stripes in
-    let k = a.book.now in
-    let o = a.output.now in
-    let h = code-good code v t k o (ap say_judged (sym c.in_default.is) ∙ c.judge_total-judged.ensures) in
-    let u = cut-output code v t k o h (λ e. c.if-output-stripe_at.true (e ∙ sym c.stripe_at.ensures.0)) in
-    record { told = u.0; left = u.1 }
-
-pub returns-then-not-is_node : goal.returns-then-not-is_node
-returns-then-not-is_node c =
-    let a = c.args in
-    let code = a.code in
-    let v = a.node.0 in
-    let t = a.stripes in
-    let k = a.book.now in
-    let o = a.output.now in
-    let h = code-good code v t k o (ap say_judged (sym c.in_default.is) ∙ c.judge_total-judged.ensures) in
-    let p = c.if-book-stripes.false ∙ ap (λ (i : ℕ). t * i) c.bytes.ensures in
+    let h = code-good a.code a.node.0 a.stripes a.book.now a.output.now c.in_ok-accepted.ensures.answer in
+    let p = c.if-book-stripes.false ∙ ap (λ (i : ℕ). a.stripes * i) c.bytes.ensures in
     let q = c.if-output-stripe_at.false ∙ c.stripe_at.ensures.0 in
-    let u = cut-node code v t k o h p q (sym c.is_node.ensures ∙ c.if-not-is_node.true) in
+    let u = cut-node a.code a.node.0 a.stripes a.book.now a.output.now h p q (sym c.is_within.ensures ∙ c.if-not-is_within.true) in
     record { told = u.0; left = u.1 }
 
-pub write_file-requires : goal.write_file-requires
-write_file-requires c =
+pub write_file-requires-clause-few : goal.write_file-requires-clause-few
+write_file-requires-clause-few c =
     let a = c.args in
-    let code = a.code in
-    let v = a.node.0 in
-    let t = a.stripes in
-    let k = a.book.now in
-    let o = a.output.now in
-    let h = code-good code v t k o (ap say_judged (sym c.in_default.is) ∙ c.judge_total-judged.ensures) in
-    let p = c.if-book-stripes.false ∙ ap (λ (i : ℕ). t * i) c.bytes.ensures in
-    let q = c.if-output-stripe_at.false ∙ c.stripe_at.ensures.0 in
-    (cut-rules code v t k o h, cut-total code v t k o h, p, q)
+    let h = code-good a.code a.node.0 a.stripes a.book.now a.output.now c.in_ok-accepted.ensures.answer in
+    cut-total a.code a.node.0 a.stripes a.book.now a.output.now h
 
 pub returns : goal.returns
 returns c =
     let a = c.args in
-    let code = a.code in
-    let v = a.node.0 in
-    let t = a.stripes in
-    let k = a.book.now in
-    let o = a.output.now in
-    let h = code-good code v t k o (ap say_judged (sym c.in_default.is) ∙ c.judge_total-judged.ensures) in
-    let p = c.if-book-stripes.false ∙ ap (λ (i : ℕ). t * i) c.bytes.ensures in
+    let h = code-good a.code a.node.0 a.stripes a.book.now a.output.now c.in_ok-accepted.ensures.answer in
+    let p = c.if-book-stripes.false ∙ ap (λ (i : ℕ). a.stripes * i) c.bytes.ensures in
     let q = c.if-output-stripe_at.false ∙ c.stripe_at.ensures.0 in
-    let u = cut-done code v t k o h p q (sym c.is_node.ensures ∙ c.if-not-is_node.false) _ c.write_file.ensures in
+    let x = c.write_file.ensures ∙ ap₂ (λ (y : Code) (v : Node). afresh y v.0 a.stripes 0 a.book.now) (c.new.ensures.0 ∙ c.in_ok-accepted.ensures.same) c.new.ensures.1 in
+    let u = cut-done a.code a.node.0 a.stripes a.book.now a.output.now h p q (sym c.is_within.ensures ∙ c.if-not-is_within.false) _ x in
     record { told = u.0; left = u.1 }
