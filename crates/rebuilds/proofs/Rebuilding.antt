@@ -16,7 +16,7 @@ use Rattle.codes.specs.Sizes.{alpha}
 use Rattle.codes.specs.Rules.{Rules}
 use Rattle.codes.specs.Rebuild.{rebuilt}
 use Rattle.codes.specs.declared.Code.{Code}
-use Rattle.std.specs.Prelude.{Result, Ok, Err}
+use Rattle.std.specs.Prelude.{Result, Ok}
 use Rattle.codes.specs.declared.Refusal.{Refusal}
 use Rattle.codes.specs.declared.Refusal.TheVariants.{Length, Node, Repeat, Mixed}
 use Rattle.codes.proofs.Bools.{and_left, and_right}
