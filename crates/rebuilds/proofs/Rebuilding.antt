@@ -11,12 +11,11 @@ use lib.Dec.{eqb}
 use lib.ListN.{length, get_or}
 use Rattle.field.specs.Tables.{tables}
 use Rattle.codes.specs.Told.{Told, refused, done, answered}
-use Rattle.codes.specs.Judge.{judged, say_judged, pair_in}
+use Rattle.codes.specs.Judge.{judged, pair_in}
 use Rattle.codes.specs.Sizes.{alpha}
 use Rattle.codes.specs.Rules.{Rules}
 use Rattle.codes.specs.Rebuild.{rebuilt}
 use Rattle.codes.specs.declared.Code.{Code}
-use Rattle.std.specs.Prelude.{Result, Ok}
 use Rattle.codes.specs.declared.Refusal.{Refusal}
 use Rattle.codes.specs.declared.Refusal.TheVariants.{Length, Node, Repeat, Mixed}
 use Rattle.codes.proofs.Bools.{and_left, and_right}
@@ -35,9 +34,6 @@ Known c f hs = within c f && every (within c) hs
 
 abbrev pub Twice : ℕ → List ℕ → Bool
 Twice f hs = has f hs || repeats hs
-
-pub good-is : {A : Type 0} {j : Result A Refusal} {x : A} {t : Told} → j ≡ Ok x → say_judged j ≡ t → done 0 ≡ t
-good-is g e = sym (ap say_judged g) ∙ e
 
 module _ (c : Code) (f : ℕ) (hs ys ns : List ℕ) (room : ℕ) where
   abbrev pub Tested : Told → Type 0
@@ -83,8 +79,6 @@ module _ (c : Code) (f : ℕ) (hs ys ns o : List ℕ) where
     refused-stays = refused-leaves (rebuild_reasons c f hs ys ns o) (pair_in c) r e (rebuilt c f hs ys) o
 
   pub record Passed : Type 0 where
-    pub rules : Rules c
-    pub nodes : length hs ≡ c.d
     pub symbols : length ys ≡ c.d
     pub counts : length ns ≡ c.d
     pub room : length o ≡ alpha c
@@ -93,18 +87,16 @@ module _ (c : Code) (f : ℕ) (hs ys ns o : List ℕ) where
     pub passed : Passed
     unfolding rebuild_reasons
     passed =
-        let g = ladder-good c (Long c hs ys ns (length o)) (Known c f hs) (Twice f hs) (differ ns) e in
+        let g = (ladder-good c (Long c hs ys ns (length o)) (Known c f hs) (Twice f hs) (differ ns) e).1 in
         let t1 = eqb (length hs) c.d in
         let t2 = t1 && eqb (length ys) c.d in
         let t3 = t2 && eqb (length ns) c.d in
-        let e3 : t3 ≡ true = and_left t3 (eqb (length o) (alpha c)) g.1 in
+        let e3 : t3 ≡ true = and_left t3 (eqb (length o) (alpha c)) g in
         let e2 : t2 ≡ true = and_left t2 (eqb (length ns) c.d) e3 in
         record {
-          rules = g.0;
-          nodes = eqb-true (length hs) c.d (and_left t1 (eqb (length ys) c.d) e2);
           symbols = eqb-true (length ys) c.d (and_right t1 (eqb (length ys) c.d) e2);
           counts = eqb-true (length ns) c.d (and_right t2 (eqb (length ns) c.d) e3);
-          room = eqb-true (length o) (alpha c) (and_right t3 (eqb (length o) (alpha c)) g.1);
+          room = eqb-true (length o) (alpha c) (and_right t3 (eqb (length o) (alpha c)) g);
         }
 
     pub done-is : done (get_or ns 0 0) ≡ rebuild_told c f hs ys ns o
@@ -113,8 +105,8 @@ module _ (c : Code) (f : ℕ) (hs ys ns o : List ℕ) where
         done-told (rebuild_reasons c f hs ys ns o) (pair_in c) e (get_or ns 0 0)
         (ladder-numbered c (Long c hs ys ns (length o)) (Known c f hs) (Twice f hs) (differ ns))
 
-    pub done-writes : ((t : ℕ) → t < c.d → get_or ys t 0 < 256) → applied (plan_of c f hs) tables ys o ≡ rebuild_leaves c f hs ys ns o
+    pub done-writes : Rules c → ((t : ℕ) → t < c.d → get_or ys t 0 < 256) → applied (plan_of c f hs) tables ys o ≡ rebuild_leaves c f hs ys ns o
     unfolding rebuild_leaves
-    done-writes b =
-        plan-rebuilds c f hs ys o (d-high c passed.rules) (alpha-high c passed.rules) passed.symbols passed.room b
+    done-writes R b =
+        plan-rebuilds c f hs ys o (d-high c R) (alpha-high c R) passed.symbols passed.room b
         ∙ done-leaves (rebuild_reasons c f hs ys ns o) (pair_in c) e (rebuilt c f hs ys) o

@@ -161,16 +161,18 @@ plan-none c f hs h = rows-zero 31 31 (λ t j p q. plan-many c f hs t j h)
 
 -- ---- one weight
 
-pub joined-val : (a l b : ℕ) → a < 256 → bit_xor a (Field.mul l b) ≡ (symbol a ⊕ symbol l ⊗ symbol b).val
-joined-val a l b h = ap₂ bit_xor (sym (val-symbol h)) (mul_val l b) ∙ sym (val-add (symbol a) (symbol l ⊗ symbol b))
-
 pub folded-none : (a : ℕ) (l : F) (v : Vec) (j : ℕ) → a ≤ j → 0 ≡ (folded a l v j).val
 unfolding folded 𝟘
 folded-none a l v j h = sym (ap (λ (x : F). x.val) (pick-ge j a (v j ⊕ l ⊗ v (a + j)) 𝟘 h))
 
-pub folded-at : (a : ℕ) (l : F) (v : Vec) (j : ℕ) → j < a → folded a l v j ≡ v j ⊕ l ⊗ v (a + j)
+pub folded-at : (a l : ℕ) (row : List ℕ) (j : ℕ) {far : ℕ} → j < a → get_or row j 0 < 256 → far ≡ get_or row (a + j) 0
+    → Field.add (get_or row j 0) (Field.mul l far) ≡ (folded a (symbol l) (at row) j).val
 unfolding folded
-folded-at a l v j h = pick-lt j a (v j ⊕ l ⊗ v (a + j)) 𝟘 h
+folded-at a l row j {far} h b e =
+    let joined = at row j ⊕ symbol l ⊗ at row (a + j) in
+    ap (λ (n : ℕ). Field.add (get_or row j 0) (Field.mul l n)) e
+    ∙ ap₂ bit_xor (sym (val-symbol b)) (mul_val l (get_or row (a + j) 0))
+    ∙ sym (val-add (at row j) (symbol l ⊗ at row (a + j))) ∙ sym (ap (λ (x : F). x.val) (pick-lt j a joined 𝟘 h))
 
 -- rows are stored one by one into a grid of zeros
 

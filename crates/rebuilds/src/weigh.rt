@@ -1,6 +1,6 @@
 // The plan of a rebuild: the weights that the solutions for the helpers give. It is made once for a set of helpers.
 ghost use Rattle.std.specs.Prelude.{◌≡◌, ◌≤◌, ◌<◌, length};
-ghost use Rattle.algebra.specs.Symbol.{symbol, ◌⊕◌, ◌⊗◌};
+ghost use Rattle.algebra.specs.Symbol.{symbol};
 ghost use Rattle.algebra.specs.Bytes.{at, table};
 ghost use Rattle.rebuilds.specs.Plan.{weighed};
 ghost use Rattle.rebuilds.specs.Weights.{factor, folded, folded_rows};
@@ -10,36 +10,30 @@ use codes::{Code, Node};
 use field::{Products, Symbol};
 
 // By what the second half of a solution is multiplied.
-fn factor_of(code: Code, failed: Node) -> Symbol
-    ensures { result.0 ≡ (factor code failed.0).val }
+fn factor_of(code: Code, failed: Node) -> u8
+    ensures { result ≡ (factor code failed.0).val }
 {
     if code.kind == 1 {
-        return Symbol::ZERO;
+        0
+    } else {
+        code.point(failed).power(code.alpha()).0
     }
-    code.point(failed).power(code.alpha())
-}
-
-// near + l * far
-fn joined(near: u8, l: Symbol, far: u8, t: &Products) -> u8
-    ensures { result ≡ (symbol near ⊕ symbol l.0 ⊗ symbol far).val }
-{
-    near ^ t.times(l, Symbol::of(far)).0
 }
 
 // One weight: the entry j of a solution, and l times the entry a places on; past the end of the row an entry is 0.
-fn weight(row: &[u8; 31], a: usize, l: Symbol, j: usize, t: &Products) -> u8
+fn weight(row: &[u8; 31], a: usize, l: u8, j: usize, t: &Products) -> u8
     requires { j < 31 }
-    ensures { result ≡ (folded a (symbol l.0) (at row.now) j).val }
+    ensures { result ≡ (folded a (symbol l) (at row.now) j).val }
 {
     if a <= j {
         return 0;
     }
-    joined(row[j], l, row[j..].get(a).copied().unwrap_or(0), t)
+    t.raised(row[j], l, row[j..].get(a).copied().unwrap_or(0))
 }
 
 // The weights that one solution gives.
-fn weights(row: &[u8; 31], a: usize, l: Symbol, t: &Products) -> [u8; 31]
-    ensures { result ≡ table 31 (folded a (symbol l.0) (at row.now)) }
+fn weights(row: &[u8; 31], a: usize, l: u8, t: &Products) -> [u8; 31]
+    ensures { result ≡ table 31 (folded a (symbol l) (at row.now)) }
 {
     let mut w = [0u8; 31];
     for (j, x) in w.iter_mut().enumerate() {

@@ -5,7 +5,7 @@ use Rattle.rebuilds.proofs.weigh.factor_of.Goals as goal
 pub returns-then-code-eq1 : goal.returns-then-code-eq1
 returns-then-code-eq1 c = factor-none _ _ c.if-code-eq1.true
 
-pub returns : goal.returns
-returns c =
+pub returns-else-code-eq1 : goal.returns-else-code-eq1
+returns-else-code-eq1 c =
     let s = c.args in
     cc (factor-power s.code s.failed.0 c.if-code-eq1.false)

@@ -6,4 +6,4 @@ use Rattle.rebuilds.specs.Weights.{folded_by, rows_to}
 use Rattle.rebuilds.proofs.weigh.fold.Given as goal
 
 abbrev pub invariant-loop-u : goal.invariant-loop-u
-invariant-loop-u l = l.p ≡ rows_of 31 31 (rows_to l.u (folded_by l.a (symbol l.l.0) l.solved))
+invariant-loop-u l = l.p ≡ rows_of 31 31 (rows_to l.u (folded_by l.a (symbol l.l) l.solved))

@@ -1,13 +1,11 @@
 -- `rebuilds::weigh::weight` meets its contract: from place a on a weight is zero, and before it the two entries are joined.
-use mathlib.Core.Path.{◌≡◌, ◌∙◌, sym, ap}
+use mathlib.Core.Path.{◌≡◌, ◌∙◌, ap}
 use mathlib.Core.List.{List}
 use Prim.Native.Nat.{ℕ, ◌-◌}
 use native.Mathlib.Omega.{arith}
 use borrow.Author.Rules.{rules}
 use lib.ListN.{length, length-drop, get_or, take, drop}
 use Rattle.std.proofs.lemmas.List.{get_or-drop, take_all}
-use Rattle.algebra.specs.Symbol.{F, symbol, ◌⊕◌, ◌⊗◌}
-use Rattle.algebra.specs.Bytes.{at}
 use Rattle.rebuilds.proofs.Weighing.{folded-none, folded-at}
 use Rattle.rebuilds.proofs.weigh.weight.Goals as goal
 
@@ -17,9 +15,9 @@ returns-then-a-j c = folded-none _ _ _ _ c.if-a-j.true
 pub returns : goal.returns
 returns c =
     let s = c.args in
-    let far : c.unwrap_or.result ≡ get_or (take (31 - s.j) (drop s.j s.row.now)) s.a 0 = search rules in
-    let long : length s.row.now ≡ 31 = search rules in
-    c.joined.ensures
-    ∙ ap (λ (n : ℕ). (at s.row.now s.j ⊕ symbol s.l.0 ⊗ symbol n).val)
-    (far ∙ ap (λ (l : List ℕ). get_or l s.a 0) (take_all _ _ (omega (arith, long, length-drop s.j s.row.now))) ∙ get_or-drop s.j s.row.now s.a 0 ∙ ap (λ (n : ℕ). get_or s.row.now n 0) (omega arith))
-    ∙ sym (ap (λ (x : F). x.val) (folded-at s.a (symbol s.l.0) (at s.row.now) s.j c.if-a-j.false))
+    let r = s.row.now in
+    let far : c.unwrap_or.result ≡ get_or (take (31 - s.j) (drop s.j r)) s.a 0 = search rules in
+    let long : length r ≡ 31 = search rules in
+    let on = ap (λ (l : List ℕ). get_or l s.a 0) (take_all _ _ (omega (arith, long, length-drop s.j r))) ∙ get_or-drop s.j r s.a 0
+    ∙ ap (λ (n : ℕ). get_or r n 0) (omega arith) in
+    c.raised.ensures ∙ folded-at s.a s.l r s.j c.if-a-j.false (omega arith) (far ∙ on)

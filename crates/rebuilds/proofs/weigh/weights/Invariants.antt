@@ -6,4 +6,4 @@ use Rattle.rebuilds.proofs.Filling.{Filling}
 use Rattle.rebuilds.proofs.weigh.weights.Given as goal
 
 abbrev pub invariant-loop-j : goal.invariant-loop-j
-invariant-loop-j l = Filling 31 (folded l.a (symbol l.l.0) (at l.row)) l.x-items l.j
+invariant-loop-j l = Filling 31 (folded l.a (symbol l.l) (at l.row)) l.x-items l.j
