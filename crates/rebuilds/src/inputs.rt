@@ -13,7 +13,7 @@ use stripes::lists::{all_within, differ, has, is_within, repeats};
 fn are_long(code: Code, nodes: usize, symbols: usize, counts: usize, room: usize) -> bool
     ensures { result ≡ (eqb nodes code.d && eqb symbols code.d && eqb counts code.d && eqb room (alpha code)) }
 {
-    let d = code.d as usize;
+    let d = usize::from(code.d);
     nodes == d && symbols == d && counts == d && room == code.alpha()
 }
 

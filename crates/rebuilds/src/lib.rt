@@ -19,10 +19,10 @@ pub type Plan = [[u8; 31]; 31];
 pub fn plan(code: Code, failed: Node, nodes: &[u8]) -> Plan
     ensures { result ≡ plan_of code failed.0 nodes.now }
 {
-    let d = code.d as usize;
-    if d > 31 {
+    if code.d > 31 {
         return [[0u8; 31]; 31];
     }
+    let d = usize::from(code.d);
     let solved = solver::basis(points::points_of(code.points, nodes), d);
     weigh::fold(code, failed, solved)
 }

@@ -9,7 +9,9 @@ use field::Symbol;
 pub fn point_of(points: [Symbol; 32], v: u8) -> u8
     ensures { result ≡ point_in points v }
 {
-    points.get(v.saturating_sub(1) as usize).map_or(0, |x| x.0)
+    points
+        .get(usize::from(v.saturating_sub(1)))
+        .map_or(0, |x| x.0)
 }
 
 // The points of the first 31 nodes of a list.

@@ -51,7 +51,7 @@ pub fn fold(code: Code, failed: Node, solved: [[u8; 31]; 31]) -> Plan
     let a = code.alpha();
     let l = factor_of(code, failed);
     let mut p = [[0u8; 31]; 31];
-    for u in 0..code.d as usize {
+    for u in 0..usize::from(code.d) {
         p[u] = weights(&solved[u], a, l, &t);
     }
     p

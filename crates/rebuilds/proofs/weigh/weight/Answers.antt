@@ -1,7 +1,7 @@
 -- `rebuilds::weigh::weight` meets its contract: from place a on a weight is zero, and before it the two entries are joined.
 use mathlib.Core.Path.{◌≡◌, ◌∙◌, ap}
 use mathlib.Core.List.{List}
-use Prim.Native.Nat.{ℕ, ◌-◌}
+use Prim.Native.Nat.{ℕ, ◌+◌, ◌-◌}
 use native.Mathlib.Omega.{arith}
 use borrow.Author.Rules.{rules}
 use lib.ListN.{length, length-drop, get_or, take, drop}
@@ -18,6 +18,7 @@ returns c =
     let r = s.row.now in
     let far : c.unwrap_or.result ≡ get_or (take (31 - s.j) (drop s.j r)) s.a 0 = search rules in
     let long : length r ≡ 31 = search rules in
-    let on = ap (λ (l : List ℕ). get_or l s.a 0) (take_all _ _ (omega (arith, long, length-drop s.j r))) ∙ get_or-drop s.j r s.a 0
-    ∙ ap (λ (n : ℕ). get_or r n 0) (omega arith) in
+    let order : s.j + s.a ≡ s.a + s.j = omega arith in
+    let whole = take_all (31 - s.j) (drop s.j r) (omega (arith, long, length-drop s.j r)) in
+    let on = ap (λ (l : List ℕ). get_or l s.a 0) whole ∙ get_or-drop s.j r s.a 0 ∙ ap (λ (n : ℕ). get_or r n 0) order in
     c.raised.ensures ∙ folded-at s.a s.l r s.j c.if-a-j.false (omega arith) (far ∙ on)
