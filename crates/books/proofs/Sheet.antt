@@ -2,7 +2,7 @@
 --   Sheet c v t book i  the file's bytes with its first i stripes
 --   sheet-start, sheet-next, sheet-end     C and N, one stripe more, the whole file
 --   answers-more        one answer more at the end
---   answers-start, answers_next, answers-end     no answer, one answer more, all answers
+--   answers-start, answers_next     no answer, one answer more
 -- Assumes nothing.
 use mathlib.Core.Path.{◌≡◌, ◌∙◌, refl, sym, ap, ap₂}
 use mathlib.Core.List.{List, [], ◌∷◌, ◌++◌, append-nil, append_assoc}
@@ -107,6 +107,3 @@ module _ (c : Code) (s : List ℕ) (f : ℕ) where
       let z : 0 + i ≡ i = omega arith in
       ap (λ (k : ℕ). take k o') n ∙ record-next o o' r (answers_from c s f 0 i) (i * 10) 10 e l m (p ∙ ap (λ (k : ℕ). put_at o k r) g)
       ∙ ap (λ (k : List ℕ). answers_from c s f 0 i ++ k) (h ∙ ap Answer (sym z)) ∙ sym (answers-more 0 i)
-
-  pub answers-end : (i t : ℕ) (o : List ℕ) → i ≡ t → length o ≡ t * 10 → take (i * 10) o ≡ answers_from c s f 0 i → o ≡ answers_from c s f 0 t
-  answers-end i t o e l h = sym (take_all (i * 10) o (omega arith)) ∙ h ∙ ap (answers_from c s f 0) e
