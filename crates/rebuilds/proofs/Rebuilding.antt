@@ -105,7 +105,8 @@ module _ (c : Code) (f : ℕ) (hs ys ns o : List ℕ) where
         done-told (rebuild_reasons c f hs ys ns o) (pair_in c) e (get_or ns 0 0)
         (ladder-numbered c (Long c hs ys ns (length o)) (Known c f hs) (Twice f hs) (differ ns))
 
-    pub done-writes : Rules c → ((t : ℕ) → t < c.d → get_or ys t 0 < 256) → applied (plan_of c f hs) tables ys o ≡ rebuild_leaves c f hs ys ns o
+    pub done-writes : Rules c → ((t : ℕ) → t < c.d → get_or ys t 0 < 256)
+        → applied (plan_of c f hs) tables ys o ≡ rebuild_leaves c f hs ys ns o
     unfolding rebuild_leaves
     done-writes R b =
         plan-rebuilds c f hs ys o (d-high c R) (alpha-high c R) passed.symbols passed.room b

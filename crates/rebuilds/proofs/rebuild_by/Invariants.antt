@@ -1,4 +1,5 @@
--- `rebuilds::rebuild_by` meets its contract: before turn j, j bytes of the output are the weighed sums. Where there are more than 31 symbols or bytes, nothing is written.
+-- `rebuilds::rebuild_by` meets its contract: before turn j, j bytes of the output are the weighed sums.
+-- Where there are more than 31 symbols or bytes, nothing is written.
 use lib.ListN.{length}
 use Rattle.rebuilds.specs.Plan.{weighed}
 use Rattle.rebuilds.proofs.Filling.{Filling}

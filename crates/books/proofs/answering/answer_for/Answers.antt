@@ -24,7 +24,8 @@ pub returns-then-output-filed : goal.returns-then-output-filed
 returns-then-output-filed c =
     let a = c.args in
     let k = judged a.file.now c.in_ok-filed.filed c.in_ok-filed.ensures in
-    let q = answer-output a.file.now a.failed.0 a.output.now k.clear (λ e. c.if-output-filed.true (e ∙ ap (λ (n : ℕ). n * 10) (sym k.stripes))) in
+    let p = ap (λ (n : ℕ). n * 10) (sym k.stripes) in
+    let q = answer-output a.file.now a.failed.0 a.output.now k.clear (λ e. c.if-output-filed.true (e ∙ p)) in
     record { told = q.0; left = q.1 }
 
 pub returns-then-not-is_within : goal.returns-then-not-is_within

@@ -36,4 +36,7 @@ loop-i-preserved c =
     let l = ap length c.help_record.ensures ∙ help-length r.node.0 a.filed.node.0 a.filed.count i c.symbol-symbol.result.0 in
     let w = answer-is (code_in s) s r.node.0 r.accepted.code _ _ _ i _ _ _ c.requires.code k.node k.count c.alpha-a.ensures
     (ap (λ (n : ℕ). n + 3) c.stripe_at-start.ensures.0) c.symbol-symbol.ensures c.help_record.ensures in
-    (as_long c.put.new.out o c.help_record.result (i * 10) c.put.ensures.left ∙ v.0, answers_next (code_in s) s r.node.0 i _ o _ _ v.1 refl w l (omega (arith, v.0, c.loop-i-test.true)) c.put.ensures.left)
+    let q = c.put.ensures.left in (
+      as_long c.put.new.out o c.help_record.result (i * 10) q ∙ v.0,
+      answers_next (code_in s) s r.node.0 i _ o _ _ v.1 refl w l (omega (arith, v.0, c.loop-i-test.true)) q,
+    )

@@ -30,7 +30,8 @@ overflow_mul-stripes c =
     let a = c.args in
     let h = code-good a.code a.node.0 a.stripes a.book.now a.output.now c.in_ok-accepted.ensures.answer in
     let r = subst Rules c.in_ok-accepted.ensures.same c.in_ok-accepted.accepted.rules in
-    omega (arith, small a.stripes c.bytes.result 1024 496 (cut-total a.code a.node.0 a.stripes a.book.now a.output.now h) (omega (arith, c.bytes.ensures, bytes_high a.code r)))
+    let t = cut-total a.code a.node.0 a.stripes a.book.now a.output.now h in
+    omega (arith, small a.stripes c.bytes.result 1024 496 t (omega (arith, c.bytes.ensures, bytes_high a.code r)))
 
 pub returns-then-book-stripes : goal.returns-then-book-stripes
 returns-then-book-stripes c =
@@ -38,10 +39,12 @@ returns-then-book-stripes c =
     let h = code-good a.code a.node.0 a.stripes a.book.now a.output.now c.in_ok-accepted.ensures.answer in
     elim c.then-book-stripes.branch [
       | then-book-stripes-via-then-book-stripes w ↦
-          let u = cut-book a.code a.node.0 a.stripes a.book.now a.output.now h (λ e. w.if-book-stripes.true (e ∙ ap (λ (n : ℕ). a.stripes * n) (sym c.bytes.ensures))) in
+          let b = ap (λ (n : ℕ). a.stripes * n) (sym c.bytes.ensures) in
+          let u = cut-book a.code a.node.0 a.stripes a.book.now a.output.now h (λ e. w.if-book-stripes.true (e ∙ b)) in
           record { told = u.0; left = u.1 }
       | then-book-stripes-via-else-book-stripes+then-output-stripe_at w ↦
-          let u = cut-output a.code a.node.0 a.stripes a.book.now a.output.now h (λ e. w.if-output-stripe_at.true (e ∙ sym w.stripe_at.ensures.0)) in
+          let b = sym w.stripe_at.ensures.0 in
+          let u = cut-output a.code a.node.0 a.stripes a.book.now a.output.now h (λ e. w.if-output-stripe_at.true (e ∙ b)) in
           record { told = u.0; left = u.1 }
     ]
 
@@ -66,6 +69,7 @@ returns c =
     let h = code-good a.code a.node.0 a.stripes a.book.now a.output.now c.in_ok-accepted.ensures.answer in
     let p = c.if-book-stripes.false ∙ ap (λ (i : ℕ). a.stripes * i) c.bytes.ensures in
     let q = c.if-output-stripe_at.false ∙ c.stripe_at.ensures.0 in
-    let x = c.write_file.ensures ∙ ap₂ (λ (y : Code) (v : Node). afresh y v.0 a.stripes 0 a.book.now) (c.new.ensures.0 ∙ c.in_ok-accepted.ensures.same) c.new.ensures.1 in
+    let y = c.new.ensures.0 ∙ c.in_ok-accepted.ensures.same in
+    let x = c.write_file.ensures ∙ ap₂ (λ (k : Code) (v : Node). afresh k v.0 a.stripes 0 a.book.now) y c.new.ensures.1 in
     let u = cut-done a.code a.node.0 a.stripes a.book.now a.output.now h p q (sym c.is_within.ensures ∙ c.if-not-is_within.false) _ x in
     record { told = u.0; left = u.1 }
