@@ -1,8 +1,8 @@
 -- The tests of a collection's inputs, where the output's room is known and the output is not yet at hand, and what they say of its answer.
 --   Whole c vs ns s room       the test of refusal 5
+--   whole-is                   that test, made of a code that is c
 --   Tested t                   t is what the tests tell for every output with that room
 --   tested                     what the ladder tells is
---   good-is, refused-from      an answer of the judge, as what is told
 --   refused-is, refused-stays, done-is, done-writes     the collection's answer and output, by that of its tests
 --   passed                     what is known once all tests have passed
 -- Assumes nothing.
@@ -14,28 +14,24 @@ use borrow.Author.Tests.{eqb-true}
 use lib.Dec.{eqb}
 use lib.ListN.{length, get_or}
 use Rattle.codes.specs.Told.{Told, refused, done, answered}
-use Rattle.codes.specs.Judge.{say_judged, pair_in}
+use Rattle.codes.specs.Judge.{pair_in}
 use Rattle.codes.specs.Sizes.{alpha, bytes}
 use Rattle.codes.specs.Rules.{Rules}
 use Rattle.codes.specs.Collect.{collected}
 use Rattle.codes.specs.declared.Code.{Code}
-use Rattle.std.specs.Prelude.{Result, Ok, Err}
 use Rattle.codes.specs.declared.Refusal.{Refusal}
 use Rattle.codes.proofs.Bools.{and_left, and_right}
 use Rattle.stripes.specs.Lists.{every, repeats, differ, within}
 use Rattle.collects.specs.Collect.{collect_reasons, collect_told, collect_leaves}
 use Rattle.rebuilds.proofs.Answers.{ladder, ladder-numbered, ladder-good, refused-told, refused-leaves, done-told, done-leaves}
 
-pub good-is : {A : Type 0} {j : Result A Refusal} {x : A} {t : Told} → j ≡ Ok x → say_judged j ≡ t → done 0 ≡ t
-good-is g e = sym (ap say_judged g) ∙ e
-
-pub refused-from : {A : Type 0} {j : Result A Refusal} {r : Refusal} {t : Told} → j ≡ Err r → say_judged j ≡ t → refused r ≡ t
-refused-from g e = sym (ap say_judged g) ∙ e
-
 abbrev pub Whole : Code → List ℕ → List ℕ → List ℕ → ℕ → Bool
 Whole c vs ns s room = eqb (length vs) c.k && eqb (length ns) c.k && eqb (length s) (c.k * alpha c) && eqb room (bytes c)
 
 module _ (c : Code) (vs ns s : List ℕ) (room : ℕ) where
+  pub whole-is : {a : Code} {r b : Bool} → a ≡ c → r ≡ Whole a vs ns s room → r ≡ b → Whole c vs ns s room ≡ b
+  whole-is e f g = ap (λ (k : Code). Whole k vs ns s room) (sym e) ∙ sym f ∙ g
+
   abbrev pub Tested : Told → Type 0
   Tested t = (o : List ℕ) → length o ≡ room → t ≡ answered (collect_reasons c vs ns s o) (pair_in c) 0
 

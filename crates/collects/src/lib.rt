@@ -10,7 +10,6 @@ use codes::{Code, Refusal};
 mod gather; // gather.rt: the matrix gathered, and the message read off it
 mod mbr; // mbr.rt: kind 1, T and then S
 mod msr; // msr.rt: kind 2, P parted from Q, S1 and S2
-mod products; // products.rt: products by a lent table
 mod sources; // sources.rt: the tests of a collection's inputs
 mod square; // square.rt: squares of bytes, and their products
 
@@ -25,8 +24,7 @@ pub fn collect(
     ensures answer { say_counted result ≡ collect_told code nodes.now counts.now shares.now output.old }
     ensures written { output.new ≡ collect_leaves code nodes.now counts.now shares.now output.old }
 {
-    sources::judge_collect(code, nodes, counts, shares, output.len())?;
-    gather::gather(code, nodes, shares, output);
-    let count = counts[0];
-    Ok(count)
+    let accepted = sources::judge_collect(code, nodes, counts, shares, output.len())?;
+    gather::gather(accepted, nodes, shares, output);
+    Ok(counts[0])
 }

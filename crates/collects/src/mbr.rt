@@ -1,6 +1,5 @@
 // Collecting kind 1: T from the columns of the shares past k, then S from the others less what T gives there.
 ghost use Rattle.std.specs.Prelude.{◌≡◌, ◌≤◌};
-ghost use Rattle.field.specs.Tables.{tables};
 ghost use Rattle.algebra.specs.Symbol.{◌⊕◌};
 ghost use Rattle.algebra.specs.Sums.{Same, dot};
 ghost use Rattle.algebra.specs.Bytes.{at};
@@ -9,6 +8,7 @@ ghost use Rattle.collects.specs.Gather.{From, joined};
 
 use crate::gather::{powers_each, weights};
 use crate::square::{column, copy_rows, dot, flip, times_each};
+use field::Products;
 
 // What is left of the column y of the shares: from each entry its row of powers times the row r of T is taken.
 fn rest(
@@ -17,9 +17,9 @@ fn rest(
     r: &[u8; 31],
     k: usize,
     d: usize,
-    t: &[u8; 768],
+    t: &Products,
 ) -> [u8; 31]
-    requires { (k ≤ 31) × (d ≤ 31) × (t.now ≡ tables) }
+    requires { (k ≤ 31) × (d ≤ 31) }
     ensures { Same k (at result) (λ u. at y.now u ⊕ dot d (cells rows.now u) (at r.now)) }
 {
     let mut v = [0u8; 31];
@@ -36,9 +36,9 @@ fn rests(
     far: &[[u8; 31]; 31],
     k: usize,
     d: usize,
-    t: &[u8; 768],
+    t: &Products,
 ) -> [[u8; 31]; 31]
-    requires { (k ≤ 31) × (d ≤ 31) × (t.now ≡ tables) }
+    requires { (k ≤ 31) × (d ≤ 31) }
     ensures { Holds k k result (λ j u. cells y.now j u ⊕ dot d (cells rows.now u) (λ l. cells far.now l j)) }
 {
     let mut g = [[0u8; 31]; 31];
@@ -51,8 +51,8 @@ fn rests(
 }
 
 // S beside T, from the shares c at the points xs.
-pub fn mbr(xs: [u8; 31], c: &[[u8; 31]; 31], k: usize, d: usize, t: &[u8; 768]) -> [[u8; 31]; 31]
-    requires { (k ≤ d) × (d ≤ 31) × (t.now ≡ tables) }
+pub fn mbr(xs: [u8; 31], c: &[[u8; 31]; 31], k: usize, d: usize, t: &Products) -> [[u8; 31]; 31]
+    requires { (k ≤ d) × (d ≤ 31) }
     ensures { From k d xs c.now (λ X C. Holds k d result (joined k d X C)) }
 {
     let f = weights(xs, k);

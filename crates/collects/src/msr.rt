@@ -1,6 +1,5 @@
 // Collecting kind 2: the shares times phi transposed, parted into P and Q, and S1 and S2 from these. w is k - 1.
 ghost use Rattle.std.specs.Prelude.{◌≡◌, ◌+◌, ◌≤◌, ◌<◌};
-ghost use Rattle.field.specs.Tables.{tables};
 ghost use Rattle.algebra.specs.Symbol.{symbol, ◌⊕◌, ◌⊗◌, inv};
 ghost use Rattle.algebra.specs.Sums.{Same};
 ghost use Rattle.algebra.specs.Frame.{skip};
@@ -10,9 +9,8 @@ ghost use Rattle.collects.specs.Squares.{cells, Holds};
 ghost use Rattle.collects.specs.Gather.{From, factors, Halves, stacked};
 
 use crate::gather::{powers_each, weights};
-use crate::products::product;
 use crate::square::{copy_rows, flip, times, times_each};
-use field::Symbol;
+use field::{Products, Symbol};
 
 // The place i where the place u is left out.
 fn skip(u: usize, i: usize) -> usize
@@ -38,16 +36,15 @@ fn others(xs: [u8; 31], u: usize, w: usize) -> [u8; 31]
 }
 
 // (a + b) / (x + y)
-fn parted(a: u8, b: u8, x: u8, y: u8, t: &[u8; 768]) -> u8
-    requires { t.now ≡ tables }
+fn parted(a: u8, b: u8, x: u8, y: u8, t: &Products) -> u8
     ensures { symbol result ≡ (symbol a ⊕ symbol b) ⊗ inv (symbol x ⊕ symbol y) }
 {
-    Symbol(a ^ b).over_by(Symbol(x ^ y), t).0
+    t.over(Symbol(a ^ b), Symbol(x ^ y)).0
 }
 
 // Row u of Q, without its entry u. R stands in r, and the factor of each row at place w of its powers.
-fn part_q(r: &[[u8; 31]; 31], rows: &[[u8; 31]; 31], u: usize, w: usize, t: &[u8; 768]) -> [u8; 31]
-    requires { (u ≤ w) × (w < 31) × (t.now ≡ tables) }
+fn part_q(r: &[[u8; 31]; 31], rows: &[[u8; 31]; 31], u: usize, w: usize, t: &Products) -> [u8; 31]
+    requires { (u ≤ w) × (w < 31) }
     ensures { Same w (at result) (λ i. second (factors w rows.now) (cells r.now) u (skip u i)) }
 {
     let mut q = [0u8; 31];
@@ -59,13 +56,13 @@ fn part_q(r: &[[u8; 31]; 31], rows: &[[u8; 31]; 31], u: usize, w: usize, t: &[u8
 }
 
 // Row u of P, without its entry u, from that of Q and the factor l of the row.
-fn part_p(r: &[[u8; 31]; 31], q: [u8; 31], l: u8, u: usize, w: usize, t: &[u8; 768]) -> [u8; 31]
-    requires { (u ≤ w) × (w < 31) × (t.now ≡ tables) }
+fn part_p(r: &[[u8; 31]; 31], q: [u8; 31], l: u8, u: usize, w: usize, t: &Products) -> [u8; 31]
+    requires { (u ≤ w) × (w < 31) }
     ensures { Same w (at result) (λ i. cells r.now u (skip u i) ⊕ symbol l ⊗ at q i) }
 {
     let mut p = [0u8; 31];
     for i in 0..w {
-        p[i] = r[u][skip(u, i)] ^ product(Symbol::of(l), Symbol::of(q[i]), t).0;
+        p[i] = r[u][skip(u, i)] ^ t.times(Symbol(l), Symbol(q[i])).0;
     }
     p
 }
@@ -76,9 +73,9 @@ fn halves(
     r: &[[u8; 31]; 31],
     rows: &[[u8; 31]; 31],
     w: usize,
-    t: &[u8; 768],
+    t: &Products,
 ) -> [[u8; 31]; 31]
-    requires { (w ≤ 15) × (t.now ≡ tables) }
+    requires { w ≤ 15 }
     ensures { Halves w (at xs) (factors w rows.now) (cells r.now) w result }
 {
     let mut h = [[0u8; 31]; 31];
@@ -93,8 +90,8 @@ fn halves(
 }
 
 // S1 above S2, from the shares c at the points xs.
-pub fn msr(xs: [u8; 31], c: &[[u8; 31]; 31], w: usize, t: &[u8; 768]) -> [[u8; 31]; 31]
-    requires { (w ≤ 15) × (t.now ≡ tables) }
+pub fn msr(xs: [u8; 31], c: &[[u8; 31]; 31], w: usize, t: &Products) -> [[u8; 31]; 31]
+    requires { w ≤ 15 }
     ensures { From (w + 1) w xs c.now (λ X C. Holds (w + w) w result (stacked w X C)) }
 {
     let rows = powers_each(xs, w + 1, w + 1, t);

@@ -1,22 +1,20 @@
 // Squares of 31 by 31 bytes: rows, columns and their products by the lent table, which is made once for a stripe.
 ghost use Rattle.std.specs.Prelude.{◌≡◌, ◌+◌, ◌≤◌, ◌<◌, length};
-ghost use Rattle.field.specs.Tables.{tables};
 ghost use Rattle.algebra.specs.Symbol.{symbol, 𝟘};
 ghost use Rattle.algebra.specs.Sums.{Same, pick, dot, flip};
 ghost use Rattle.algebra.specs.Bytes.{at};
 ghost use Rattle.collects.specs.Squares.{cells, Holds, Copied};
 
-use crate::products::product;
-use field::Symbol;
+use field::{Products, Symbol};
 
 // The sum of the products of n entries.
-pub fn dot(u: &[u8; 31], v: &[u8; 31], n: usize, t: &[u8; 768]) -> u8
-    requires { (n ≤ 31) × (t.now ≡ tables) }
+pub fn dot(u: &[u8; 31], v: &[u8; 31], n: usize, t: &Products) -> u8
+    requires { n ≤ 31 }
     ensures { symbol result ≡ dot n (at u.now) (at v.now) }
 {
     let mut sum: u8 = 0;
     for i in 0..n {
-        sum ^= product(Symbol::of(u[i]), Symbol::of(v[i]), t).0;
+        sum ^= t.times(Symbol(u[i]), Symbol(v[i])).0;
     }
     sum
 }
@@ -44,8 +42,8 @@ pub fn flip(g: &[[u8; 31]; 31], n: usize) -> [[u8; 31]; 31]
 }
 
 // The first m rows of f, each times the column y of n entries, into the row v.
-pub fn times(f: &[[u8; 31]; 31], y: &[u8; 31], m: usize, n: usize, t: &[u8; 768], v: &mut [u8; 31])
-    requires { (m ≤ 31) × (n ≤ 31) × (length v.old ≡ 31) × (t.now ≡ tables) }
+pub fn times(f: &[[u8; 31]; 31], y: &[u8; 31], m: usize, n: usize, t: &Products, v: &mut [u8; 31])
+    requires { (m ≤ 31) × (n ≤ 31) × (length v.old ≡ 31) }
     ensures { (length v.new ≡ 31) × Same m (at v.new) (λ i. dot n (at y.now) (cells f.now i)) }
 {
     for i in 0..m {
@@ -61,9 +59,9 @@ pub fn times_each(
     n: usize,
     from: usize,
     to: usize,
-    t: &[u8; 768],
+    t: &Products,
 ) -> [[u8; 31]; 31]
-    requires { (m ≤ 31) × (n ≤ 31) × (from ≤ to) × (to ≤ 31) × (t.now ≡ tables) }
+    requires { (m ≤ 31) × (n ≤ 31) × (from ≤ to) × (to ≤ 31) }
     ensures { Holds to m result (λ j i. pick j from 𝟘 (dot n (cells y.now j) (cells f.now i))) }
 {
     let mut g = [[0u8; 31]; 31];

@@ -12,25 +12,22 @@ use Rattle.collects.proofs.gather.gather.Goals as goal
 
 pub shares_in-c-requires : goal.shares_in-c-requires
 shares_in-c-requires c =
-    let p = c.requires in
-    let e = c.alpha-a.ensures in
-    (omega (arith, p.0.order, d-high _ p.0), omega (arith, e, alpha-high _ p.0), p.2 ∙ ap (λ (n : ℕ). c.args.code.k * n) (sym e))
-
-pub gathered-g-requires : goal.gathered-g-requires
-gathered-g-requires c = (c.requires.0, c.tables-t.ensures)
+    let r = c.args.accepted.rules in
+    let e = c.alpha.ensures in
+    (omega (arith, r.order, d-high _ r), omega (arith, e, alpha-high _ r), c.requires.1 ∙ ap (λ (n : ℕ). c.args.accepted.code.k * n) (sym e))
 
 pub read_off-requires : goal.read_off-requires
-read_off-requires c = (c.requires.0, c.alpha-a.ensures, c.requires.3)
+read_off-requires c = c.requires.2
 
 pub shape_of-output : goal.shape_of-output
-shape_of-output c = ap length c.read_off.ensures ∙ table-length _ _ ∙ sym c.requires.3
+shape_of-output c = ap length c.read_off.ensures ∙ table-length _ _ ∙ sym c.requires.2
 
 pub returns : goal.returns
 returns c =
     let s = c.args in
-    let r = c.requires.0 in
-    let e = c.alpha-a.ensures in
+    let k = s.accepted in
+    let e = c.alpha.ensures in
     let h = c.shares_in-c in
     c.read_off.ensures
-    ∙ collects s.code r s.nodes.now s.shares.now c.points_of-xs.result h.result c.gathered-g.result c.points_of-xs.ensures
+    ∙ collects k.code k.rules s.nodes.now s.shares.now c.points_of-xs.result h.result c.gathered-g.result c.points_of-xs.ensures
     (λ u m j n. h.ensures u m j (omega (arith, e)) ∙ ap (λ (a : ℕ). at s.shares.now (u * a + j)) e) c.gathered-g.ensures

@@ -6,26 +6,26 @@ use Rattle.collects.proofs.Gathering.{gathered-one, gathered-two}
 use Rattle.collects.proofs.gather.gathered.Goals as goal
 
 pub mbr-requires : goal.mbr-requires
-mbr-requires c = let p = c.requires in (p.0.order, d-high _ p.0, p.1)
+mbr-requires c = let r = c.args.accepted.rules in (r.order, d-high _ r)
 
 pub returns-then-code-eq1 : goal.returns-then-code-eq1
 returns-then-code-eq1 c =
-    let s = c.args in
-    let r = c.requires.0 in
+    let s = c.args.accepted in
+    let r = s.rules in
     let e = c.if-code-eq1.true in
     λ X C hx hc. gathered-one s.code r X C c.mbr.result e (c.mbr.ensures X C hx (λ i m j n. hc i m j (omega (arith, alpha-one s.code e))))
 
 pub overflow_sub-code : goal.overflow_sub-code
-overflow_sub-code c = c.requires.0.least
+overflow_sub-code c = c.args.accepted.rules.least
 
 pub msr-requires : goal.msr-requires
 msr-requires c =
-    let p = c.requires in (omega (arith, k_two _ p.0 (second-kind _ p.0 c.if-code-eq1.false)), p.1)
+    let r = c.args.accepted.rules in omega (arith, k_two _ r (second-kind _ r c.if-code-eq1.false))
 
 pub returns : goal.returns
 returns c =
-    let s = c.args in
-    let r = c.requires.0 in
+    let s = c.args.accepted in
+    let r = s.rules in
     let n = c.if-code-eq1.false in
     λ X C hx hc. gathered-two s.code r X C c.msr.result (second-kind _ r n)
     (c.msr.ensures X C (λ t m. hx t (omega (arith, r.least))) (λ i m j o. hc i (omega (arith, r.least)) j (omega (arith, alpha-two s.code n))))

@@ -1,11 +1,9 @@
 -- `collects::gather::powers` meets its contract: before turn i, i powers are stored, and p is the next.
 -- Assumes nothing.
 use mathlib.Core.Path.{◌∙◌, ap}
-use Prim.Native.Nat.{ℕ}
 use native.Mathlib.Omega.{arith}
 use borrow.Author.Count.{below_none}
 use Rattle.algebra.specs.Symbol.{symbol}
-use Rattle.field.specs.Field.{mul}
 use Rattle.collects.proofs.Squares.{same_store}
 use Rattle.collects.proofs.Gathering.{pow-start, pow_step}
 use borrow.Author.Rules.{rules}
@@ -21,7 +19,7 @@ loop-i-preserved c =
       search rules,
       search rules,
       same_store l.v l.p.0 (search rules) l.invariant.2 l.invariant.3,
-      ap symbol (c.product-p.ensures ∙ ap (λ (a : ℕ). mul a l.p.0) c.of.ensures) ∙ pow_step x l.p.0 l.i l.invariant.3,
+      ap symbol c.times-p.ensures ∙ pow_step x l.p.0 l.i l.invariant.3,
     )
 
 pub returns : goal.returns

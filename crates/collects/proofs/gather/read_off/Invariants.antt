@@ -1,6 +1,6 @@
 -- `collects::gather::read_off` meets its contract: before turn b, b symbols are written.
 -- Assumes nothing.
-use Prim.Native.Nat.{◌+◌, ◌*◌, ◌-◌, ◌≤◌}
+use Prim.Native.Nat.{◌+◌, ◌*◌}
 use Rattle.collects.specs.Squares.{cells}
 use Rattle.codes.specs.Sizes.{alpha, bytes}
 use Rattle.codes.specs.Matrix.{lane, row_of, col_of}
@@ -9,7 +9,5 @@ use Rattle.collects.proofs.gather.read_off.Given as goal
 
 abbrev pub invariant-loop-b : goal.invariant-loop-b
 invariant-loop-b l =
-    (l.b ≤ bytes l.code) × Filling (bytes l.code) (λ e. cells l.g (lane l.code e * alpha l.code + row_of l.code e) (col_of l.code e)) l.output l.b
-
-abbrev pub decreases-loop-b : goal.decreases-loop-b
-decreases-loop-b l = bytes l.code - l.b
+    let c = l.code in
+    Filling (bytes c) (λ e. cells l.g (lane c e * alpha c + row_of c e) (col_of c e)) l.output l.b

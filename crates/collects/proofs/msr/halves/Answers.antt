@@ -20,15 +20,15 @@ loop-u-init c = (search rules, search rules, long-zero, halves-none _ _ _ _ _)
 
 pub times-requires : goal.times-requires
 times-requires c =
-    let l = c.loop-u in (search rules, search rules, l.invariant.2 l.u (omega arith), search rules)
+    let l = c.loop-u in (search rules, search rules, l.invariant.2 l.u (omega arith))
 
 pub times-requires-in-loop-u : goal.times-requires-in-loop-u
 times-requires-in-loop-u c =
     let l = c.loop-u in
     let k = c.loop-u-test.true in
     let a = c.times.new.v in
-    let fits : c.args.w ≤ 31 = omega (arith, c.requires.0) in
-    (fits, fits, long-store l.h l.u a l.invariant.1 c.times.ensures.0 l.invariant.2 (c.args.w + l.u) (omega (arith, c.requires.0, k)), c.requires.1)
+    let fits : c.args.w ≤ 31 = omega (arith, c.requires) in
+    (fits, fits, long-store l.h l.u a l.invariant.1 c.times.ensures.0 l.invariant.2 (c.args.w + l.u) (omega (arith, c.requires, k)))
 
 pub loop-u-preserved : goal.loop-u-preserved
 loop-u-preserved c =

@@ -5,7 +5,7 @@ use mathlib.Core.List.{[]}
 use native.Mathlib.Omega.{arith}
 use borrow.Author.Count.{below_none}
 use lib.ListN.{get_or}
-use Rattle.algebra.specs.Symbol.{symbol, ◌⊕◌, ◌⊗◌}
+use Rattle.algebra.specs.Symbol.{symbol, ◌⊕◌}
 use Rattle.collects.specs.Squares.{cells}
 use Rattle.algebra.proofs.Ring.{symbol-add, symbol-mul}
 use Rattle.collects.proofs.Squares.{same_store}
@@ -19,13 +19,13 @@ pub loop-i-preserved : goal.loop-i-preserved
 loop-i-preserved c =
     let l = c.loop-i in
     let s = c.args in
-    let e = c.product.ensures in (
+    let e = c.times.ensures in (
       search rules,
       search rules,
       same_store l.p _ (search rules) l.invariant.2
-          (symbol-add (get_or (get_or s.r.now s.u []) c.skip.result 0) c.product.result.0
+          (symbol-add (get_or (get_or s.r.now s.u []) c.skip.result 0) c.times.result.0
           ∙ ap₂ ◌⊕◌ (ap (cells s.r.now s.u) c.skip.ensures.0)
-          (ap symbol e ∙ symbol-mul _ _ ∙ ap₂ ◌⊗◌ (ap symbol c.of.ensures) (ap symbol c.of-in-loop-i.ensures))),
+          (ap symbol e ∙ symbol-mul _ _)),
     )
 
 pub returns : goal.returns

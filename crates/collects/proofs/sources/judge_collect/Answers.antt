@@ -1,81 +1,44 @@
 -- `collects::sources::judge_collect` meets its contract: the answer is that of the first test that fails.
 -- Assumes nothing.
-use mathlib.Core.Path.{◌≡◌, ◌∙◌, sym}
-use mathlib.Core.Bool.{true, false}
-use Rattle.codes.proofs.Rules.{rules}
-use Rattle.stripes.specs.Lists.{every, repeats, differ, within}
+use mathlib.Core.Path.{◌∙◌, sym}
+use Rattle.codes.proofs.Told.{handed-on}
 use Rattle.rebuilds.proofs.Answers.{by-judge, by_length, by-node, by-repeat, by-mixed, by-none}
-use Rattle.collects.proofs.Collecting.{Whole, tested, good-is, refused-from}
+use Rattle.collects.proofs.Collecting.{whole-is, tested}
 use Rattle.collects.proofs.sources.judge_collect.Goals as goal
 
-pub returns-in-Refused : goal.returns-in-Refused
-returns-in-Refused c =
-    let s = c.args in
-    let W = Whole s.code s.nodes.now s.counts.now s.shares.now s.room in
-    let K = every (within s.code) s.nodes.now in
-    let e = refused-from c.in-Refused.is c.judge-judged.ensures in
-    tested s.code s.nodes.now s.counts.now s.shares.now s.room
-    (by-judge s.code W K (repeats s.nodes.now) (differ s.counts.now) c.in-Refused.r e)
+pub returns-in_err-accepted-clause-answer : goal.returns-in_err-accepted-clause-answer
+returns-in_err-accepted-clause-answer c =
+    tested _ _ _ _ _
+    (handed-on _ c.from_residual.result c.in_err-accepted.field-0.0 c.from_residual.ensures.1 (by-judge _ _ _ _ _ _ c.in_err-accepted.ensures.answer))
 
-pub are_whole-requires : goal.are_whole-requires
-are_whole-requires c =
-    let e = good-is c.in_default.is c.judge-judged.ensures in rules _ (sym e)
+pub returns-then-not-are_whole-clause-answer : goal.returns-then-not-are_whole-clause-answer
+returns-then-not-are_whole-clause-answer c =
+    let j = c.in_ok-accepted.ensures in
+    tested _ _ _ _ _ (by_length _ _ _ _ _ j.answer (whole-is _ _ _ _ _ j.same c.are_whole.ensures c.if-not-are_whole.true))
 
-pub returns-then-not-are_whole : goal.returns-then-not-are_whole
-returns-then-not-are_whole c =
-    let s = c.args in
-    let W = Whole s.code s.nodes.now s.counts.now s.shares.now s.room in
-    let K = every (within s.code) s.nodes.now in
-    let R = repeats s.nodes.now in
-    let M = differ s.counts.now in
-    let g = good-is c.in_default.is c.judge-judged.ensures in tested s.code s.nodes.now s.counts.now s.shares.now s.room
-    (by_length s.code W K R M g (sym c.are_whole.ensures ∙ c.if-not-are_whole.true))
+pub returns-then-not-all_within-clause-answer : goal.returns-then-not-all_within-clause-answer
+returns-then-not-all_within-clause-answer c =
+    let j = c.in_ok-accepted.ensures in
+    let l = whole-is _ _ _ _ _ j.same c.are_whole.ensures c.if-not-are_whole.false in
+    tested _ _ _ _ _ (by-node _ _ _ _ _ j.answer l (sym c.all_within.ensures ∙ c.if-not-all_within.true))
 
-pub returns-then-not-all_within : goal.returns-then-not-all_within
-returns-then-not-all_within c =
-    let s = c.args in
-    let W = Whole s.code s.nodes.now s.counts.now s.shares.now s.room in
-    let K = every (within s.code) s.nodes.now in
-    let R = repeats s.nodes.now in
-    let M = differ s.counts.now in
-    let g = good-is c.in_default.is c.judge-judged.ensures in
-    let l : W ≡ true = sym c.are_whole.ensures ∙ c.if-not-are_whole.false in tested s.code s.nodes.now s.counts.now s.shares.now s.room
-    (by-node s.code W K R M g l (sym c.all_within.ensures ∙ c.if-not-all_within.true))
+pub returns-then-repeats-clause-answer : goal.returns-then-repeats-clause-answer
+returns-then-repeats-clause-answer c =
+    let j = c.in_ok-accepted.ensures in
+    let l = whole-is _ _ _ _ _ j.same c.are_whole.ensures c.if-not-are_whole.false in
+    let k = sym c.all_within.ensures ∙ c.if-not-all_within.false in
+    tested _ _ _ _ _ (by-repeat _ _ _ _ _ j.answer l k (sym c.repeats.ensures ∙ c.if-repeats.true))
 
-pub returns-then-repeats : goal.returns-then-repeats
-returns-then-repeats c =
-    let s = c.args in
-    let W = Whole s.code s.nodes.now s.counts.now s.shares.now s.room in
-    let K = every (within s.code) s.nodes.now in
-    let R = repeats s.nodes.now in
-    let M = differ s.counts.now in
-    let g = good-is c.in_default.is c.judge-judged.ensures in
-    let l : W ≡ true = sym c.are_whole.ensures ∙ c.if-not-are_whole.false in
-    let k : K ≡ true = sym c.all_within.ensures ∙ c.if-not-all_within.false in tested s.code s.nodes.now s.counts.now s.shares.now s.room
-    (by-repeat s.code W K R M g l k (sym c.repeats.ensures ∙ c.if-repeats.true))
+pub returns-then-differ-clause-answer : goal.returns-then-differ-clause-answer
+returns-then-differ-clause-answer c =
+    let j = c.in_ok-accepted.ensures in
+    let l = whole-is _ _ _ _ _ j.same c.are_whole.ensures c.if-not-are_whole.false in
+    let k = sym c.all_within.ensures ∙ c.if-not-all_within.false in
+    tested _ _ _ _ _ (by-mixed _ _ _ _ _ j.answer l k (sym c.repeats.ensures ∙ c.if-repeats.false) (sym c.differ.ensures ∙ c.if-differ.true))
 
-pub returns-then-differ : goal.returns-then-differ
-returns-then-differ c =
-    let s = c.args in
-    let W = Whole s.code s.nodes.now s.counts.now s.shares.now s.room in
-    let K = every (within s.code) s.nodes.now in
-    let R = repeats s.nodes.now in
-    let M = differ s.counts.now in
-    let g = good-is c.in_default.is c.judge-judged.ensures in
-    let l : W ≡ true = sym c.are_whole.ensures ∙ c.if-not-are_whole.false in
-    let k : K ≡ true = sym c.all_within.ensures ∙ c.if-not-all_within.false in
-    let r : R ≡ false = sym c.repeats.ensures ∙ c.if-repeats.false in tested s.code s.nodes.now s.counts.now s.shares.now s.room
-    (by-mixed s.code W K R M g l k r (sym c.differ.ensures ∙ c.if-differ.true))
-
-pub returns : goal.returns
-returns c =
-    let s = c.args in
-    let W = Whole s.code s.nodes.now s.counts.now s.shares.now s.room in
-    let K = every (within s.code) s.nodes.now in
-    let R = repeats s.nodes.now in
-    let M = differ s.counts.now in
-    let g = good-is c.in_default.is c.judge-judged.ensures in
-    let l : W ≡ true = sym c.are_whole.ensures ∙ c.if-not-are_whole.false in
-    let k : K ≡ true = sym c.all_within.ensures ∙ c.if-not-all_within.false in
-    let r : R ≡ false = sym c.repeats.ensures ∙ c.if-repeats.false in tested s.code s.nodes.now s.counts.now s.shares.now s.room
-    (by-none s.code W K R M g l k r (sym c.differ.ensures ∙ c.if-differ.false))
+pub returns-clause-answer : goal.returns-clause-answer
+returns-clause-answer c =
+    let j = c.in_ok-accepted.ensures in
+    let l = whole-is _ _ _ _ _ j.same c.are_whole.ensures c.if-not-are_whole.false in
+    let k = sym c.all_within.ensures ∙ c.if-not-all_within.false in
+    tested _ _ _ _ _ (by-none _ _ _ _ _ j.answer l k (sym c.repeats.ensures ∙ c.if-repeats.false) (sym c.differ.ensures ∙ c.if-differ.false))

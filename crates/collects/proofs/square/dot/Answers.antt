@@ -1,6 +1,6 @@
 -- `collects::square::dot` meets its contract: before turn i the sum is that of i products.
 -- Assumes nothing.
-use mathlib.Core.Path.{◌∙◌, ap}
+use mathlib.Core.Path.{◌∙◌, refl, ap}
 use Prim.Native.Nat.{ℕ}
 use native.Mathlib.Omega.{arith}
 use Rattle.algebra.specs.Symbol.{symbol}
@@ -19,8 +19,8 @@ loop-i-preserved c =
     let l = c.loop-i in
     let s = c.args in (
       search rules,
-      ap (λ (x : ℕ). symbol (bit_xor l.sum x)) c.product-sum.ensures
-          ∙ dot-step l.i (at s.u.now) (at s.v.now) l.sum _ _ l.invariant.1 (ap symbol c.of.ensures) (ap symbol c.of-in-loop-i.ensures),
+      ap (λ (x : ℕ). symbol (bit_xor l.sum x)) c.times-sum.ensures
+          ∙ dot-step l.i (at s.u.now) (at s.v.now) l.sum _ _ l.invariant.1 refl refl,
     )
 
 pub returns : goal.returns

@@ -15,7 +15,7 @@ loop-j-init c = (search rules, search rules, search rules, long-zero, λ j h i k
 
 pub times-requires : goal.times-requires
 times-requires c =
-    let l = c.loop-j in (search rules, search rules, l.invariant.3 l.j (omega arith), search rules)
+    let l = c.loop-j in (search rules, search rules, l.invariant.3 l.j (omega arith))
 
 pub loop-j-preserved : goal.loop-j-preserved
 loop-j-preserved c =
