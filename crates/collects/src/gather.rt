@@ -11,13 +11,13 @@ ghost use Rattle.collects.specs.Gather.{From, deep};
 
 use crate::mbr::mbr;
 use crate::msr::msr;
-use crate::square::flip;
+use crate::square::{Row, Square, flip};
 use codes::Accepted;
 use field::{Products, Symbol};
 use rebuilds::points::points_of;
 
 // What solves at the first s of the points xs: row i has the weights of the values in entry i of the solution.
-pub fn weights(xs: [u8; 31], s: usize) -> [[u8; 31]; 31]
+pub fn weights(xs: Row, s: usize) -> Square
     requires { s ≤ 31 }
     ensures { Solver s xs result }
 {
@@ -26,7 +26,7 @@ pub fn weights(xs: [u8; 31], s: usize) -> [[u8; 31]; 31]
 }
 
 // The first n powers of a point.
-fn powers(x: u8, n: usize, t: &Products) -> [u8; 31]
+fn powers(x: u8, n: usize, t: &Products) -> Row
     requires { n ≤ 31 }
     ensures { Same n (at result) (pow (symbol x)) }
 {
@@ -40,7 +40,7 @@ fn powers(x: u8, n: usize, t: &Products) -> [u8; 31]
 }
 
 // The first n powers of each of the first k points: their rows.
-pub fn powers_each(xs: [u8; 31], k: usize, n: usize, t: &Products) -> [[u8; 31]; 31]
+pub fn powers_each(xs: Row, k: usize, n: usize, t: &Products) -> Square
     requires { (k ≤ 31) × (n ≤ 31) }
     ensures { Holds k n result (λ u. pow (at xs u)) }
 {
@@ -52,7 +52,7 @@ pub fn powers_each(xs: [u8; 31], k: usize, n: usize, t: &Products) -> [[u8; 31];
 }
 
 // n bytes of a run, from a place on.
-fn part(run: &[u8], from: usize, n: usize) -> [u8; 31]
+fn part(run: &[u8], from: usize, n: usize) -> Row
     requires { (n ≤ 31) × (from + n ≤ length run.now) }
     ensures { Same n (at result) (λ j. at run.now (from + j)) }
 {
@@ -64,7 +64,7 @@ fn part(run: &[u8], from: usize, n: usize) -> [u8; 31]
 }
 
 // A run of k shares of a bytes as rows.
-fn shares_in(run: &[u8], k: usize, a: usize) -> [[u8; 31]; 31]
+fn shares_in(run: &[u8], k: usize, a: usize) -> Square
     requires { (k ≤ 31) × (a ≤ 31) × (length run.now ≡ k * a) }
     ensures { Holds k a result (λ u j. at run.now (u * a + j)) }
 {
@@ -76,7 +76,7 @@ fn shares_in(run: &[u8], k: usize, a: usize) -> [[u8; 31]; 31]
 }
 
 // The matrix that the shares give.
-fn gathered(accepted: Accepted, xs: [u8; 31], c: &[[u8; 31]; 31], t: &Products) -> [[u8; 31]; 31]
+fn gathered(accepted: Accepted, xs: Row, c: &Square, t: &Products) -> Square
     ensures { From accepted.code.k (alpha accepted.code) xs c.now (λ X C. Holds (deep accepted.code) (alpha accepted.code) result (gathered accepted.code X C)) }
 {
     let code = accepted.code;
@@ -87,7 +87,7 @@ fn gathered(accepted: Accepted, xs: [u8; 31], c: &[[u8; 31]; 31], t: &Products) 
 }
 
 // The message read off the matrix, symbol by symbol.
-fn read_off(accepted: Accepted, g: &[[u8; 31]; 31], output: &mut [u8])
+fn read_off(accepted: Accepted, g: &Square, output: &mut [u8])
     requires { length output.old ≡ bytes accepted.code }
     ensures { output.new ≡ table (bytes accepted.code) (λ b. cells g.now (lane accepted.code b * alpha accepted.code + row_of accepted.code b) (col_of accepted.code b)) }
 {

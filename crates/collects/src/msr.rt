@@ -9,7 +9,7 @@ ghost use Rattle.collects.specs.Squares.{cells, Holds};
 ghost use Rattle.collects.specs.Gather.{From, factors, Halves, stacked};
 
 use crate::gather::{powers_each, weights};
-use crate::square::{copy_rows, flip, times, times_each};
+use crate::square::{Row, Square, copy_rows, flip, row, times, times_each};
 use field::{Products, Symbol};
 
 // The place i where the place u is left out.
@@ -24,15 +24,11 @@ fn skip(u: usize, i: usize) -> usize
 }
 
 // The w points other than the point u.
-fn others(xs: [u8; 31], u: usize, w: usize) -> [u8; 31]
+fn others(xs: Row, u: usize, w: usize) -> Row
     requires { w < 31 }
     ensures { Same w (at result) (λ i. at xs (skip u i)) }
 {
-    let mut v = [0u8; 31];
-    for i in 0..w {
-        v[i] = xs[skip(u, i)];
-    }
-    v
+    row(w, |i| xs[skip(u, i)])
 }
 
 // (a + b) / (x + y)
@@ -43,38 +39,26 @@ fn parted(a: u8, b: u8, x: u8, y: u8, t: &Products) -> u8
 }
 
 // Row u of Q, without its entry u. R stands in r, and the factor of each row at place w of its powers.
-fn part_q(r: &[[u8; 31]; 31], rows: &[[u8; 31]; 31], u: usize, w: usize, t: &Products) -> [u8; 31]
+fn part_q(r: &Square, rows: &Square, u: usize, w: usize, t: &Products) -> Row
     requires { (u ≤ w) × (w < 31) }
     ensures { Same w (at result) (λ i. second (factors w rows.now) (cells r.now) u (skip u i)) }
 {
-    let mut q = [0u8; 31];
-    for i in 0..w {
+    row(w, |i| {
         let s = skip(u, i);
-        q[i] = parted(r[u][s], r[s][u], rows[u][w], rows[s][w], t);
-    }
-    q
+        parted(r[u][s], r[s][u], rows[u][w], rows[s][w], t)
+    })
 }
 
 // Row u of P, without its entry u, from that of Q and the factor l of the row.
-fn part_p(r: &[[u8; 31]; 31], q: [u8; 31], l: u8, u: usize, w: usize, t: &Products) -> [u8; 31]
+fn part_p(r: &Square, q: Row, l: u8, u: usize, w: usize, t: &Products) -> Row
     requires { (u ≤ w) × (w < 31) }
     ensures { Same w (at result) (λ i. cells r.now u (skip u i) ⊕ symbol l ⊗ at q i) }
 {
-    let mut p = [0u8; 31];
-    for i in 0..w {
-        p[i] = r[u][skip(u, i)] ^ t.times(Symbol(l), Symbol(q[i])).0;
-    }
-    p
+    row(w, |i| r[u][skip(u, i)] ^ t.times(Symbol(l), Symbol(q[i])).0)
 }
 
 // What the rows of P, and below them those of Q, solve for: the system without the point u is solved once for both.
-fn halves(
-    xs: [u8; 31],
-    r: &[[u8; 31]; 31],
-    rows: &[[u8; 31]; 31],
-    w: usize,
-    t: &Products,
-) -> [[u8; 31]; 31]
+fn halves(xs: Row, r: &Square, rows: &Square, w: usize, t: &Products) -> Square
     requires { w ≤ 15 }
     ensures { Halves w (at xs) (factors w rows.now) (cells r.now) w result }
 {
@@ -83,14 +67,14 @@ fn halves(
         let f = weights(others(xs, u, w), w);
         let q = part_q(r, rows, u, w, t);
         let p = part_p(r, q, rows[u][w], u, w, t);
-        times(&f, &p, w, w, t, &mut h[u]);
-        times(&f, &q, w, w, t, &mut h[w + u]);
+        h[u] = times(&f, &p, w, w, t);
+        h[w + u] = times(&f, &q, w, w, t);
     }
     h
 }
 
 // S1 above S2, from the shares c at the points xs.
-pub fn msr(xs: [u8; 31], c: &[[u8; 31]; 31], w: usize, t: &Products) -> [[u8; 31]; 31]
+pub fn msr(xs: Row, c: &Square, w: usize, t: &Products) -> Square
     requires { w ≤ 15 }
     ensures { From (w + 1) w xs c.now (λ X C. Holds (w + w) w result (stacked w X C)) }
 {

@@ -1,5 +1,5 @@
 // Squares of 31 by 31 bytes: rows, columns and their products by the lent table, which is made once for a stripe.
-ghost use Rattle.std.specs.Prelude.{◌≡◌, ◌+◌, ◌≤◌, ◌<◌, length};
+ghost use Rattle.std.specs.Prelude.{◌≡◌, ℕ, ◌+◌, ◌≤◌, ◌<◌, get_or, length};
 ghost use Rattle.algebra.specs.Symbol.{symbol, 𝟘};
 ghost use Rattle.algebra.specs.Sums.{Same, pick, dot, flip};
 ghost use Rattle.algebra.specs.Bytes.{at};
@@ -7,8 +7,12 @@ ghost use Rattle.collects.specs.Squares.{cells, Holds, Copied};
 
 use field::{Products, Symbol};
 
+pub type Row = [u8; 31];
+
+pub type Square = [Row; 31];
+
 // The sum of the products of n entries.
-pub fn dot(u: &[u8; 31], v: &[u8; 31], n: usize, t: &Products) -> u8
+pub fn dot(u: &Row, v: &Row, n: usize, t: &Products) -> u8
     requires { n ≤ 31 }
     ensures { symbol result ≡ dot n (at u.now) (at v.now) }
 {
@@ -19,66 +23,69 @@ pub fn dot(u: &[u8; 31], v: &[u8; 31], n: usize, t: &Products) -> u8
     sum
 }
 
-// The first n entries of the column j, into the row c.
-pub fn column(g: &[[u8; 31]; 31], j: usize, n: usize, c: &mut [u8; 31])
-    requires { (j < 31) × (n ≤ 31) × (length c.old ≡ 31) }
-    ensures { (length c.new ≡ 31) × Same n (at c.new) (λ i. cells g.now i j) }
+// The row of what f gives at each of the first n places.
+pub fn row<F: Fn(usize) -> u8>(n: usize, f: F) -> Row
+    requires fits { n ≤ 31 }
+    requires callable { (i : ℕ) → i < n → F.pre f i }
+    ensures { (i : ℕ) → i < n → F.post f i (get_or result i 0) }
 {
+    let mut v = [0u8; 31];
     for i in 0..n {
-        c[i] = g[i][j];
+        v[i] = f(i);
     }
+    v
+}
+
+// The first n entries of the column j.
+pub fn column(g: &Square, j: usize, n: usize) -> Row
+    requires { (j < 31) × (n ≤ 31) }
+    ensures { Same n (at result) (λ i. cells g.now i j) }
+{
+    row(n, |i| g[i][j])
 }
 
 // Rows and columns exchanged, of the first n by n.
-pub fn flip(g: &[[u8; 31]; 31], n: usize) -> [[u8; 31]; 31]
+pub fn flip(g: &Square, n: usize) -> Square
     requires { n ≤ 31 }
     ensures { Holds n n result (flip (cells g.now)) }
 {
     let mut f = [[0u8; 31]; 31];
     for j in 0..n {
-        column(g, j, n, &mut f[j]);
+        f[j] = column(g, j, n);
     }
     f
 }
 
-// The first m rows of f, each times the column y of n entries, into the row v.
-pub fn times(f: &[[u8; 31]; 31], y: &[u8; 31], m: usize, n: usize, t: &Products, v: &mut [u8; 31])
-    requires { (m ≤ 31) × (n ≤ 31) × (length v.old ≡ 31) }
-    ensures { (length v.new ≡ 31) × Same m (at v.new) (λ i. dot n (at y.now) (cells f.now i)) }
+// The first m rows of f, each times the column y of n entries.
+pub fn times(f: &Square, y: &Row, m: usize, n: usize, t: &Products) -> Row
+    requires { (m ≤ 31) × (n ≤ 31) }
+    ensures { Same m (at result) (λ i. dot n (at y.now) (cells f.now i)) }
 {
-    for i in 0..m {
-        v[i] = dot(y, &f[i], n, t);
-    }
+    row(m, |i| dot(y, &f[i], n, t))
 }
 
 // The same for each row of y from one row to another, as rows of a new square.
 pub fn times_each(
-    f: &[[u8; 31]; 31],
-    y: &[[u8; 31]; 31],
+    f: &Square,
+    y: &Square,
     m: usize,
     n: usize,
     from: usize,
     to: usize,
     t: &Products,
-) -> [[u8; 31]; 31]
+) -> Square
     requires { (m ≤ 31) × (n ≤ 31) × (from ≤ to) × (to ≤ 31) }
     ensures { Holds to m result (λ j i. pick j from 𝟘 (dot n (cells y.now j) (cells f.now i))) }
 {
     let mut g = [[0u8; 31]; 31];
     for j in from..to {
-        times(f, &y[j], m, n, t, &mut g[j]);
+        g[j] = times(f, &y[j], m, n, t);
     }
     g
 }
 
 // m rows of h, from row b on, in place of those of g from row a on.
-pub fn copy_rows(
-    mut g: [[u8; 31]; 31],
-    a: usize,
-    h: &[[u8; 31]; 31],
-    b: usize,
-    m: usize,
-) -> [[u8; 31]; 31]
+pub fn copy_rows(mut g: Square, a: usize, h: &Square, b: usize, m: usize) -> Square
     requires { (a + m ≤ 31) × (b + m ≤ 31) }
     ensures { Copied g a h.now b m result }
 {

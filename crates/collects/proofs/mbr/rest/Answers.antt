@@ -1,28 +1,8 @@
--- `collects::mbr::rest` meets its contract: before turn u, u entries are what is left.
+-- `collects::mbr::rest` meets its contract: each entry is what the closure gives.
 -- Assumes nothing.
-use mathlib.Core.Path.{◌∙◌, ap}
-use native.Mathlib.Omega.{arith}
-use borrow.Author.Count.{below_none}
-use lib.ListN.{get_or}
-use Rattle.algebra.specs.Symbol.{F, ◌⊕◌}
-use Rattle.algebra.specs.Bytes.{at}
-use Rattle.algebra.proofs.Ring.{symbol-add}
-use Rattle.collects.proofs.Squares.{same_store}
 use borrow.Author.Rules.{rules}
+use Rattle.algebra.proofs.Ring.{symbol-add}
 use Rattle.collects.proofs.mbr.rest.Goals as goal
 
-pub loop-u-init : goal.loop-u-init
-loop-u-init c = (search rules, search rules, below_none _)
-
-pub loop-u-preserved : goal.loop-u-preserved
-loop-u-preserved c =
-    let l = c.loop-u in
-    let y = c.args.y.now in (
-      search rules,
-      search rules,
-      same_store l.v _ (search rules) l.invariant.2
-          (symbol-add (get_or y l.u 0) c.dot.result ∙ ap (λ (x : F). at y l.u ⊕ x) c.dot.ensures),
-    )
-
 pub returns : goal.returns
-returns c = λ i h. c.loop-u.invariant.2 i (omega arith)
+returns c = λ i h. let k = c.row.ensures i h in search (rules, symbol-add)

@@ -11,20 +11,18 @@ use borrow.Author.Rules.{rules}
 use Rattle.collects.proofs.mbr.rests.Goals as goal
 
 pub loop-j-init : goal.loop-j-init
-loop-j-init c = (search rules, search rules, search rules, below_none _)
+loop-j-init c = (search rules, search rules, below_none _)
 
 pub loop-j-preserved : goal.loop-j-preserved
 loop-j-preserved c =
     let l = c.loop-j in
-    let s = c.args in
-    let e = c.column.ensures in (
+    let s = c.args in (
       search rules,
       search rules,
-      e.0,
-      holds-store l.g c.rest.result (search rules) l.invariant.3
+      holds-store l.g c.rest.result (search rules) l.invariant.2
           (λ u h. c.rest.ensures u h
-          ∙ ap (λ (x : F). cells s.y.now l.j u ⊕ x) (dot-same s.d (λ i m. refl) (λ i m. e.1 i (omega arith)))),
+          ∙ ap (λ (x : F). cells s.y.now l.j u ⊕ x) (dot-same s.d (λ i m. refl) (λ i m. c.column-r.ensures i (omega arith)))),
     )
 
 pub returns : goal.returns
-returns c = λ i h. c.loop-j.invariant.3 i (omega arith)
+returns c = λ i h. c.loop-j.invariant.2 i (omega arith)

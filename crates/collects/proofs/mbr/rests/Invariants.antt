@@ -10,7 +10,7 @@ use Rattle.collects.proofs.mbr.rests.Given as goal
 
 abbrev pub invariant-loop-j : goal.invariant-loop-j
 invariant-loop-j l =
-    (l.j ≤ l.k) × (length l.g ≡ 31) × (length l.r ≡ 31) × Holds l.j l.k l.g (λ e u. cells l.y e u ⊕ dot l.d (cells l.rows u) (λ o. cells l.far o e))
+    (l.j ≤ l.k) × (length l.g ≡ 31) × Holds l.j l.k l.g (λ e u. cells l.y e u ⊕ dot l.d (cells l.rows u) (λ o. cells l.far o e))
 
 abbrev pub decreases-loop-j : goal.decreases-loop-j
 decreases-loop-j l = l.k - l.j

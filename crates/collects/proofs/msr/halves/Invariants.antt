@@ -4,12 +4,12 @@ use mathlib.Core.Path.{◌≡◌}
 use Prim.Native.Nat.{◌-◌, ◌≤◌}
 use lib.ListN.{length}
 use Rattle.algebra.specs.Bytes.{at}
-use Rattle.collects.specs.Squares.{cells, Long}
+use Rattle.collects.specs.Squares.{cells}
 use Rattle.collects.specs.Gather.{factors, Halves}
 use Rattle.collects.proofs.msr.halves.Given as goal
 
 abbrev pub invariant-loop-u : goal.invariant-loop-u
-invariant-loop-u l = (l.u ≤ l.w) × (length l.h ≡ 31) × Long l.h × Halves l.w (at l.xs) (factors l.w l.rows) (cells l.r) l.u l.h
+invariant-loop-u l = (l.u ≤ l.w) × (length l.h ≡ 31) × Halves l.w (at l.xs) (factors l.w l.rows) (cells l.r) l.u l.h
 
 abbrev pub decreases-loop-u : goal.decreases-loop-u
 decreases-loop-u l = l.w - l.u

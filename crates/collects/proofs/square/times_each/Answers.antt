@@ -6,16 +6,12 @@ use Rattle.algebra.specs.Symbol.{𝟘}
 use Rattle.algebra.specs.Sums.{dot}
 use Rattle.collects.specs.Squares.{cells}
 use Rattle.algebra.proofs.Sums.{pick-lt, pick-ge}
-use Rattle.collects.proofs.Squares.{long-zero, long-store, holds-zero, holds-store}
+use Rattle.collects.proofs.Squares.{holds-zero, holds-store}
 use borrow.Author.Rules.{rules}
 use Rattle.collects.proofs.square.times_each.Goals as goal
 
 pub loop-j-init : goal.loop-j-init
-loop-j-init c = (search rules, search rules, search rules, long-zero, λ j h i k. holds-zero 31 j (omega arith) 31 i (omega arith) ∙ sym (pick-lt j c.args.from 𝟘 _ h))
-
-pub times-requires : goal.times-requires
-times-requires c =
-    let l = c.loop-j in (search rules, search rules, l.invariant.3 l.j (omega arith))
+loop-j-init c = (search rules, search rules, search rules, λ j h i k. holds-zero 31 j (omega arith) 31 i (omega arith) ∙ sym (pick-lt j c.args.from 𝟘 _ h))
 
 pub loop-j-preserved : goal.loop-j-preserved
 loop-j-preserved c =
@@ -24,10 +20,9 @@ loop-j-preserved c =
       search rules,
       search rules,
       search rules,
-      long-store l.g l.j _ l.invariant.2 c.times.ensures.0 l.invariant.3,
-      holds-store l.g _ (search rules) l.invariant.4
-          (λ i h. c.times.ensures.1 i h ∙ sym (pick-ge l.j s.from 𝟘 (dot s.n (cells s.y.now l.j) (cells s.f.now i)) l.invariant.0)),
+      holds-store l.g _ (search rules) l.invariant.3
+          (λ i h. c.times.ensures i h ∙ sym (pick-ge l.j s.from 𝟘 (dot s.n (cells s.y.now l.j) (cells s.f.now i)) l.invariant.0)),
     )
 
 pub returns : goal.returns
-returns c = λ i h. c.loop-j.invariant.4 i (omega arith)
+returns c = λ i h. c.loop-j.invariant.3 i (omega arith)
