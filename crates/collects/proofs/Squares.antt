@@ -2,20 +2,16 @@
 --   symbol-zero                 the byte 0 is zero
 --   dot-start, dot-step         a sum of products in an accumulator
 --   same_store                  a row filled from the front, one store a turn
---   long-zero, long-store       rows stay 31 bytes long
 --   holds-store                 a square filled row by row;   holds-zero    a square of zeros
---   copied_none, copied_store   a square whose rows are replaced one by one
 -- Assumes nothing.
 use mathlib.Core.Path.{◌≡◌, ◌∙◌, refl, ap, ap₂}
-use mathlib.Core.Logic.{by_cases}
 use mathlib.Core.List.{List, []}
 use Prim.Native.Nat.{ℕ, ◌+◌, ◌<◌}
 use native.Mathlib.Numerals.{add-one}
 use native.Mathlib.Omega.{arith}
-use borrow.Author.Count.{below_more, below_none}
+use borrow.Author.Count.{below_more}
 use lib.Bits.{bit_xor}
-use native.Mathlib.Decide.{ℕ_discrete}
-use lib.ListN.{length, get_or, set, replicate, length-replicate, get_or-replicate}
+use lib.ListN.{length, set, replicate, get_or-replicate}
 use lib.Seq.{get_or-set_same, get_or-set_other}
 use Rattle.field.specs.Field.{mul}
 use Rattle.algebra.specs.Symbol.{symbol, ◌⊕◌, ◌⊗◌, 𝟘}
@@ -23,7 +19,7 @@ use Rattle.algebra.specs.Sums.{Vec, Grid, Same, sum, dot}
 use Rattle.algebra.specs.Bytes.{at}
 use Rattle.algebra.proofs.Ring.{F-path, symbol-add, symbol-mul}
 use Rattle.algebra.proofs.Bytes.{at_set, at_set_other}
-use Rattle.collects.specs.Squares.{cells, Holds, Long, Copied}
+use Rattle.collects.specs.Squares.{cells, Holds}
 
 pub symbol-zero : symbol 0 ≡ 𝟘
 unfolding symbol 𝟘
@@ -48,15 +44,6 @@ module _ {n : ℕ} {f : Vec} (l : List ℕ) (v : ℕ) where
 
 -- ---- squares
 
-pub long-zero : Long (replicate 31 (replicate 31 0))
-long-zero i h = ap length (get_or-replicate 31 i (replicate 31 0) [] h) ∙ length-replicate {A = ℕ} 31 0
-
-pub long-store : (g : List (List ℕ)) (j : ℕ) (r : List ℕ) → length g ≡ 31 → length r ≡ 31 → Long g → Long (set g j r)
-long-store g j r e l f i h =
-    by_cases (ℕ_discrete i j)
-    (λ c. ap (λ (x : ℕ). length (get_or (set g j r) x [])) c ∙ ap length (get_or-set_same g j r [] (omega (arith, e))) ∙ l)
-    (λ c. ap length (get_or-set_other g j i r [] c) ∙ f i h)
-
 pub holds-zero : (n : ℕ) (i : ℕ) → i < n → (m : ℕ) → (j : ℕ) → j < m → cells (replicate n (replicate m 0)) i j ≡ 𝟘
 holds-zero n i h m j k =
     ap (λ (l : List ℕ). at l j) (get_or-replicate n i (replicate m 0) [] h) ∙ ap symbol (get_or-replicate m j 0 0 k) ∙ symbol-zero
@@ -67,15 +54,3 @@ module _ {n : ℕ} {G : Grid} where
       below_more (λ i. Same n (cells (set g m r) i) (G i)) m
       (λ i k j l. ap (λ (x : List ℕ). at x j) (get_or-set_other g m i r [] (λ q. omega arith)) ∙ e i k j l)
       (λ j l. ap (λ (x : List ℕ). at x j) (get_or-set_same g m r [] h) ∙ p j l)
-
-module _ (g : List (List ℕ)) (a : ℕ) (h : List (List ℕ)) (b : ℕ) where
-  pub copied_none : Copied g a h b 0 g
-  copied_none = record { placed = below_none _; before = λ i k. refl; after = λ i k. refl }
-
-  pub copied_store : (i : ℕ) (r : List (List ℕ)) → a + i < length r → Copied g a h b i r → Copied g a h b (i + 1) (set r (a + i) (get_or h (b + i) []))
-  copied_store i r l c = record {
-    placed = below_more (λ e. get_or (set r (a + i) (get_or h (b + i) [])) (a + e) [] ≡ get_or h (b + e) []) i
-        (λ e k. get_or-set_other r (a + i) (a + e) _ [] (λ q. omega arith) ∙ c.placed e k) (get_or-set_same r (a + i) _ [] l);
-    before = λ e k. get_or-set_other r (a + i) e _ [] (λ q. omega arith) ∙ c.before e k;
-    after = λ e k. get_or-set_other r (a + i) e _ [] (λ q. omega arith) ∙ c.after e (omega arith);
-  }

@@ -1,11 +1,10 @@
 -- Squares of 31 by 31 bytes, through which a collection goes, and what its steps promise each other. Bytes are read as symbols.
 --   cells g              a list of rows of bytes as a grid
 --   Holds m n g G        the first m rows and n columns of g are those of the grid G
---   Long g               each of the 31 rows of g has 31 bytes
 --   Solver s xs f        row i of f has the weights of s values in entry i of the solution at the points xs
 --   Copied g a h b m r   r is g with the m rows of h from row b on in place of its own from row a on
 -- Assumes nothing.
-use Rattle.std.specs.Prelude.{◌≡◌, List, [], ℕ, ◌+◌, ◌<◌, ◌≤◌, get_or, length}
+use Rattle.std.specs.Prelude.{◌≡◌, List, [], ℕ, ◌+◌, ◌<◌, ◌≤◌, get_or}
 use Rattle.algebra.specs.Sums.{Vec, Grid, Same, dot}
 use Rattle.algebra.specs.Poly.{interp}
 use Rattle.algebra.specs.Bytes.{at}
@@ -15,9 +14,6 @@ cells g i = at (get_or g i [])
 
 abbrev pub Holds : ℕ → ℕ → List (List ℕ) → Grid → Type 0
 Holds m n g G = (i : ℕ) → i < m → Same n (cells g i) (G i)
-
-abbrev pub Long : List (List ℕ) → Type 0
-Long g = (i : ℕ) → i < 31 → length (get_or g i []) ≡ 31
 
 abbrev pub Solver : ℕ → List ℕ → List (List ℕ) → Type 0
 Solver s xs f = (ys : Vec) (i : ℕ) → i < s → dot s ys (cells f i) ≡ interp s (at xs) ys i

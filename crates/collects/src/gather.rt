@@ -21,8 +21,7 @@ pub fn weights(xs: Row, s: usize) -> Square
     requires { s ≤ 31 }
     ensures { Solver s xs result }
 {
-    let b = solver::basis(xs, s);
-    flip(&b, s)
+    flip(&solver::basis(xs, s), s)
 }
 
 // The first n powers of a point.
@@ -57,9 +56,7 @@ fn part(run: &[u8], from: usize, n: usize) -> Row
     ensures { Same n (at result) (λ j. at run.now (from + j)) }
 {
     let mut v = [0u8; 31];
-    for j in 0..n {
-        v[j] = run[from + j];
-    }
+    v[..n].copy_from_slice(&run[from..from + n]);
     v
 }
 

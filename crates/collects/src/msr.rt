@@ -1,6 +1,6 @@
 // Collecting kind 2: the shares times phi transposed, parted into P and Q, and S1 and S2 from these. w is k - 1.
 ghost use Rattle.std.specs.Prelude.{◌≡◌, ◌+◌, ◌≤◌, ◌<◌};
-ghost use Rattle.algebra.specs.Symbol.{symbol, ◌⊕◌, ◌⊗◌, inv};
+ghost use Rattle.algebra.specs.Symbol.{symbol, ◌⊕◌, ◌⊗◌};
 ghost use Rattle.algebra.specs.Sums.{Same};
 ghost use Rattle.algebra.specs.Frame.{skip};
 ghost use Rattle.algebra.specs.Hollow.{second};
@@ -10,7 +10,7 @@ ghost use Rattle.collects.specs.Gather.{From, factors, Halves, stacked};
 
 use crate::gather::{powers_each, weights};
 use crate::square::{Row, Square, copy_rows, flip, row, times, times_each};
-use field::{Products, Symbol};
+use field::Products;
 
 // The place i where the place u is left out.
 fn skip(u: usize, i: usize) -> usize
@@ -31,13 +31,6 @@ fn others(xs: Row, u: usize, w: usize) -> Row
     row(w, |i| xs[skip(u, i)])
 }
 
-// (a + b) / (x + y)
-fn parted(a: u8, b: u8, x: u8, y: u8, t: &Products) -> u8
-    ensures { symbol result ≡ (symbol a ⊕ symbol b) ⊗ inv (symbol x ⊕ symbol y) }
-{
-    t.over(Symbol(a ^ b), Symbol(x ^ y)).0
-}
-
 // Row u of Q, without its entry u. R stands in r, and the factor of each row at place w of its powers.
 fn part_q(r: &Square, rows: &Square, u: usize, w: usize, t: &Products) -> Row
     requires { (u ≤ w) × (w < 31) }
@@ -45,7 +38,7 @@ fn part_q(r: &Square, rows: &Square, u: usize, w: usize, t: &Products) -> Row
 {
     row(w, |i| {
         let s = skip(u, i);
-        parted(r[u][s], r[s][u], rows[u][w], rows[s][w], t)
+        t.slope(r[u][s], r[s][u], rows[u][w], rows[s][w])
     })
 }
 
@@ -54,7 +47,7 @@ fn part_p(r: &Square, q: Row, l: u8, u: usize, w: usize, t: &Products) -> Row
     requires { (u ≤ w) × (w < 31) }
     ensures { Same w (at result) (λ i. cells r.now u (skip u i) ⊕ symbol l ⊗ at q i) }
 {
-    row(w, |i| r[u][skip(u, i)] ^ t.times(Symbol(l), Symbol(q[i])).0)
+    row(w, |i| t.raised(r[u][skip(u, i)], l, q[i]))
 }
 
 // What the rows of P, and below them those of Q, solve for: the system without the point u is solved once for both.

@@ -89,8 +89,6 @@ pub fn copy_rows(mut g: Square, a: usize, h: &Square, b: usize, m: usize) -> Squ
     requires { (a + m ≤ 31) × (b + m ≤ 31) }
     ensures { Copied g a h.now b m result }
 {
-    for i in 0..m {
-        g[a + i] = h[b + i];
-    }
+    g[a..a + m].copy_from_slice(&h[b..b + m]);
     g
 }

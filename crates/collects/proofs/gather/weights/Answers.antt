@@ -14,5 +14,5 @@ pub returns : goal.returns
 returns c =
     let s = c.args in
     λ ys i h. dot-same s.s (λ t m. refl)
-    (λ t m. c.flip.ensures i (omega arith) t (omega arith) ∙ ap (λ (b : List (List ℕ)). cells b t i) c.basis-b.ensures)
+    (λ t m. c.flip.ensures i (omega arith) t (omega arith) ∙ ap (λ (b : List (List ℕ)). cells b t i) c.basis.ensures)
     ∙ basis-any s.xs s.s (search rules) ys i h

@@ -4,6 +4,9 @@ use mathlib.Core.Path.{◌∙◌, refl, ap}
 use native.Mathlib.Omega.{arith}
 use borrow.Author.Count.{below_none}
 use Rattle.algebra.specs.Symbol.{F, ◌⊕◌}
+use Rattle.algebra.specs.Sums.{Same, dot}
+use Rattle.algebra.specs.Bytes.{at}
+use Rattle.algebra.proofs.Ring.{symbol-add}
 use Rattle.collects.specs.Squares.{cells}
 use Rattle.algebra.proofs.Sums.{dot-same}
 use Rattle.collects.proofs.Squares.{holds-store}
@@ -16,12 +19,13 @@ loop-j-init c = (search rules, search rules, below_none _)
 pub loop-j-preserved : goal.loop-j-preserved
 loop-j-preserved c =
     let l = c.loop-j in
-    let s = c.args in (
+    let s = c.args in
+    let each : Same s.k (at c.row.result) (λ u. cells s.y.now l.j u ⊕ dot s.d (cells s.rows.now u) (at c.column-r.result)) = λ u h.
+    let k = c.row.ensures u h in search (rules, symbol-add) in (
       search rules,
       search rules,
-      holds-store l.g c.rest.result (search rules) l.invariant.2
-          (λ u h. c.rest.ensures u h
-          ∙ ap (λ (x : F). cells s.y.now l.j u ⊕ x) (dot-same s.d (λ i m. refl) (λ i m. c.column-r.ensures i (omega arith)))),
+      holds-store l.g c.row.result (search rules) l.invariant.2
+          (λ u h. each u h ∙ ap (λ (x : F). cells s.y.now l.j u ⊕ x) (dot-same s.d (λ i m. refl) c.column-r.ensures)),
     )
 
 pub returns : goal.returns
