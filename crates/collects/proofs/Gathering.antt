@@ -302,8 +302,8 @@ pub record CellAt (c : Code) (b a l x y : ℕ) : Type 0 where
   pub low : l * a + x < 31
   pub left : y < 31
 
-pub cell_at : (c : Code) → Rules c → (b a l x y : ℕ) → b < bytes c → a ≡ alpha c → (l ≡ lane c b) × (x ≡ row_of c b) × (y ≡ col_of c b) → CellAt c b a l x y
-cell_at c r b a l x y h e f =
+pub cell_at : {c : Code} {b a l x y : ℕ} → Rules c → a ≡ alpha c → (l ≡ lane c b) × (x ≡ row_of c b) × (y ≡ col_of c b) → b < bytes c → CellAt c b a l x y
+cell_at {c} {b} r e f h =
     let u = cell_in c r b h in
     let z = ap₂ ◌*◌ f.0 e in
     record { row = omega (arith, z, f.1); col = f.2; low = omega (arith, z, f.1, u.0, deep-high c r); left = omega (arith, f.2, u.1, alpha-high c r) }

@@ -11,7 +11,7 @@ ghost use Rattle.collects.specs.Gather.{From, deep};
 
 use crate::mbr::mbr;
 use crate::msr::msr;
-use crate::square::{Row, Square, flip};
+use crate::square::{Row, Square, entry, flip};
 use codes::Accepted;
 use field::{Products, Symbol};
 use rebuilds::points::points_of;
@@ -94,7 +94,7 @@ fn read_off(accepted: Accepted, g: &Square, output: &mut [u8])
         let cell = code.cell(b as u16);
         let row = cell.lane * a + cell.row;
         let col = cell.col;
-        *symbol = Symbol::of(g[row][col]).0;
+        *symbol = entry(g, row, col);
     }
 }
 

@@ -11,6 +11,14 @@ pub type Row = [u8; 31];
 
 pub type Square = [Row; 31];
 
+// The byte in row i and column j.
+pub fn entry(g: &Square, i: usize, j: usize) -> u8
+    requires { (i < 31) × (j < 31) }
+    ensures { symbol result ≡ cells g.now i j }
+{
+    g[i][j]
+}
+
 // The sum of the products of n entries.
 pub fn dot(u: &Row, v: &Row, n: usize, t: &Products) -> u8
     requires { n ≤ 31 }

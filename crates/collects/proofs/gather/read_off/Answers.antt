@@ -3,7 +3,7 @@
 use mathlib.Core.Path.{◌∙◌, sym, ap, ap₂}
 use Prim.Native.Nat.{ℕ, ◌<◌}
 use native.Mathlib.Omega.{arith}
-use Rattle.algebra.specs.Symbol.{symbol}
+use Rattle.algebra.specs.Symbol.{F}
 use Rattle.collects.specs.Squares.{cells}
 use Rattle.algebra.proofs.Ring.{val-symbol}
 use Rattle.codes.specs.Sizes.{bytes}
@@ -20,43 +20,23 @@ overflow_cast-b c = omega (arith, bytes_high _ c.args.accepted.rules)
 
 pub overflow_mul-row : goal.overflow_mul-row
 overflow_mul-row c =
-    let e = c.cell-cell in
-    let k = c.args.accepted in
-    let f = cell_at k.code k.rules c.loop-b.b _ e.result.lane e.result.row e.result.col (omega (arith, c.loop-b-test.true, c.requires)) c.alpha-a.ensures e.ensures in omega (arith, f.low)
+    let f = cell_at c.args.accepted.rules c.alpha-a.ensures c.cell-cell.ensures (omega (arith, c.loop-b-test.true, c.requires)) in omega (arith, f.low)
 
 pub overflow_add-row : goal.overflow_add-row
 overflow_add-row c =
-    let e = c.cell-cell in
-    let k = c.args.accepted in
-    let f = cell_at k.code k.rules c.loop-b.b _ e.result.lane e.result.row e.result.col (omega (arith, c.loop-b-test.true, c.requires)) c.alpha-a.ensures e.ensures in omega (arith, f.low)
+    let f = cell_at c.args.accepted.rules c.alpha-a.ensures c.cell-cell.ensures (omega (arith, c.loop-b-test.true, c.requires)) in omega (arith, f.low)
 
-pub offset_bounds-g-row : goal.offset_bounds-g-row
-offset_bounds-g-row c =
-    let e = c.cell-cell in
-    let k = c.args.accepted in
-    let f = cell_at k.code k.rules c.loop-b.b _ e.result.lane e.result.row e.result.col (omega (arith, c.loop-b-test.true, c.requires)) c.alpha-a.ensures e.ensures in omega (arith, f.low)
-
-pub bounds-g-row : goal.bounds-g-row
-bounds-g-row c =
-    let e = c.cell-cell in
-    let k = c.args.accepted in
-    let f = cell_at k.code k.rules c.loop-b.b _ e.result.lane e.result.row e.result.col (omega (arith, c.loop-b-test.true, c.requires)) c.alpha-a.ensures e.ensures in f.low
-
-pub bounds-g-col : goal.bounds-g-col
-bounds-g-col c =
-    let e = c.cell-cell in
-    let k = c.args.accepted in
-    let f = cell_at k.code k.rules c.loop-b.b _ e.result.lane e.result.row e.result.col (omega (arith, c.loop-b-test.true, c.requires)) c.alpha-a.ensures e.ensures in f.left
+pub entry-requires : goal.entry-requires
+entry-requires c =
+    let f = cell_at c.args.accepted.rules c.alpha-a.ensures c.cell-cell.ensures (omega (arith, c.loop-b-test.true, c.requires)) in (f.low, f.left)
 
 pub loop-b-preserved : goal.loop-b-preserved
 loop-b-preserved c =
     let s = c.args in
     let b : c.loop-b.b < bytes s.accepted.code = omega (arith, c.loop-b-test.true, c.requires) in
-    let e = c.cell-cell in
-    let k = c.args.accepted in
-    let f = cell_at k.code k.rules c.loop-b.b _ e.result.lane e.result.row e.result.col (omega (arith, c.loop-b-test.true, c.requires)) c.alpha-a.ensures e.ensures in
+    let f = cell_at s.accepted.rules c.alpha-a.ensures c.cell-cell.ensures b in
     filling-more _ _ _ _ _ c.loop-b.invariant b
-    (sym (val-symbol (omega arith)) ∙ ap (λ (n : ℕ). (symbol n).val) c.of.ensures ∙ ap₂ (λ (i j : ℕ). (cells s.g.now i j).val) f.row f.col)
+    (sym (val-symbol (omega arith)) ∙ ap (λ (x : F). x.val) c.entry.ensures ∙ ap₂ (λ (i j : ℕ). (cells s.g.now i j).val) f.row f.col)
 
 pub returns : goal.returns
 returns c = filling-whole _ _ _ _ c.loop-b.invariant (omega arith)
