@@ -78,9 +78,10 @@ fn gathered(accepted: Accepted, xs: Row, c: &Square, t: &Products) -> Square
 {
     let code = accepted.code;
     if code.kind == 1 {
-        return mbr(xs, c, code.k as usize, code.d as usize, t);
+        mbr(xs, c, code.k as usize, code.d as usize, t)
+    } else {
+        msr(xs, c, (code.k - 1) as usize, t)
     }
-    msr(xs, c, (code.k - 1) as usize, t)
 }
 
 // The message read off the matrix, symbol by symbol.

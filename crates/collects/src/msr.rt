@@ -17,10 +17,7 @@ fn skip(u: usize, i: usize) -> usize
     requires { i < 31 }
     ensures { (result ≡ skip u i) × (result ≤ i + 1) }
 {
-    if i < u {
-        return i;
-    }
-    i + 1
+    if i < u { i } else { i + 1 }
 }
 
 // The w points other than the point u.

@@ -9,6 +9,7 @@ use field::{Products, Symbol};
 
 pub type Row = [u8; 31];
 
+// Stays: sizes beside an array. One square is read at several sizes, and by rows from a place on.
 pub type Square = [Row; 31];
 
 // The byte in row i and column j.
@@ -25,6 +26,7 @@ pub fn dot(u: &Row, v: &Row, n: usize, t: &Products) -> u8
     ensures { symbol result ≡ dot n (at u.now) (at v.now) }
 {
     let mut sum: u8 = 0;
+    // Stays: a zip of the two with a fold takes nine in a hundred more instructions, and this is the hot loop.
     for i in 0..n {
         sum ^= t.times(Symbol(u[i]), Symbol(v[i])).0;
     }
@@ -58,6 +60,7 @@ pub fn flip(g: &Square, n: usize) -> Square
     ensures { Holds n n result (flip (cells g.now)) }
 {
     let mut f = [[0u8; 31]; 31];
+    // Stays: a closure that gives a row needs both clauses written out, here and where other squares are filled.
     for j in 0..n {
         f[j] = column(g, j, n);
     }

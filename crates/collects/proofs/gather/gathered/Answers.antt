@@ -22,8 +22,8 @@ pub msr-requires : goal.msr-requires
 msr-requires c =
     let r = c.args.accepted.rules in omega (arith, k_two _ r (second-kind _ r c.if-code-eq1.false))
 
-pub returns : goal.returns
-returns c =
+pub returns-else-code-eq1 : goal.returns-else-code-eq1
+returns-else-code-eq1 c =
     let s = c.args.accepted in
     let r = s.rules in
     let n = c.if-code-eq1.false in

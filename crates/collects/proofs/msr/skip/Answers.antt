@@ -8,5 +8,5 @@ use Rattle.collects.proofs.msr.skip.Goals as goal
 pub returns-then-i-u : goal.returns-then-i-u
 returns-then-i-u c = (sym (skip-before _ _ c.if-i-u.true), search rules)
 
-pub returns : goal.returns
-returns c = (sym (skip-after _ _ c.if-i-u.false), search rules)
+pub returns-else-i-u : goal.returns-else-i-u
+returns-else-i-u c = (sym (skip-after _ _ c.if-i-u.false), search rules)
