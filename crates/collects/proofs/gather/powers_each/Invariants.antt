@@ -1,7 +1,6 @@
 -- `collects::gather::powers_each` meets its contract: before turn u, u rows are filled.
 -- Assumes nothing.
 use mathlib.Core.Path.{◌≡◌}
-use Prim.Native.Nat.{◌-◌, ◌≤◌}
 use lib.ListN.{length}
 use Rattle.algebra.specs.Symbol.{pow}
 use Rattle.algebra.specs.Bytes.{at}
@@ -9,7 +8,4 @@ use Rattle.collects.specs.Squares.{Holds}
 use Rattle.collects.proofs.gather.powers_each.Given as goal
 
 abbrev pub invariant-loop-u : goal.invariant-loop-u
-invariant-loop-u l = (l.u ≤ l.k) × (length l.g ≡ 31) × Holds l.u l.n l.g (λ e. pow (at l.xs e))
-
-abbrev pub decreases-loop-u : goal.decreases-loop-u
-decreases-loop-u l = l.k - l.u
+invariant-loop-u l = (length l.g ≡ 31) × Holds l.u l.n l.g (λ e. pow (at l.xs e))

