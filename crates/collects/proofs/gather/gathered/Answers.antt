@@ -1,12 +1,9 @@
 -- `collects::gather::gathered` meets its contract, kind by kind.
 -- Assumes nothing.
 use native.Mathlib.Omega.{arith}
-use Rattle.codes.proofs.Sizes.{alpha-one, alpha-two, d-high, second-kind, k_two}
+use Rattle.codes.proofs.Sizes.{alpha-one, alpha-two, second-kind}
 use Rattle.collects.proofs.Gathering.{gathered-one, gathered-two}
 use Rattle.collects.proofs.gather.gathered.Goals as goal
-
-pub mbr-requires : goal.mbr-requires
-mbr-requires c = let r = c.args.accepted.rules in (r.order, d-high _ r)
 
 pub returns-then-code-eq1 : goal.returns-then-code-eq1
 returns-then-code-eq1 c =
@@ -14,10 +11,6 @@ returns-then-code-eq1 c =
     let r = s.rules in
     let e = c.if-code-eq1.true in
     λ X C hx hc. gathered-one s.code r X C c.mbr.result e (c.mbr.ensures X C hx (λ i m j n. hc i m j (omega (arith, alpha-one s.code e))))
-
-pub msr-requires : goal.msr-requires
-msr-requires c =
-    let r = c.args.accepted.rules in omega (arith, k_two _ r (second-kind _ r c.if-code-eq1.false))
 
 pub returns-else-code-eq1 : goal.returns-else-code-eq1
 returns-else-code-eq1 c =

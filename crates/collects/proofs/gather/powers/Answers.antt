@@ -1,7 +1,6 @@
 -- `collects::gather::powers` meets its contract: before turn i, i powers are stored, and p is the next.
 -- Assumes nothing.
 use mathlib.Core.Path.{◌∙◌, ap}
-use native.Mathlib.Omega.{arith}
 use borrow.Author.Count.{below_none}
 use Rattle.algebra.specs.Symbol.{symbol}
 use Rattle.collects.proofs.Squares.{same_store}
@@ -20,6 +19,3 @@ loop-i-preserved c =
       same_store l.v l.p.0 (search rules) l.invariant.1 l.invariant.2,
       ap symbol c.times-p.ensures ∙ pow_step x l.p.0 l.i l.invariant.2,
     )
-
-pub returns : goal.returns
-returns c = λ i h. c.loop-i.invariant.1 i (omega arith)

@@ -1,20 +1,10 @@
 -- `collects::gather::shares_in` meets its contract: before turn u, u shares are copied.
 -- Assumes nothing.
 use native.Mathlib.Omega.{arith}
-use borrow.Author.Count.{below_none}
-use Rattle.codes.proofs.Sizes.{small}
 use Rattle.collects.proofs.Squares.{holds-store}
 use Rattle.collects.proofs.Gathering.{rows_fit}
 use borrow.Author.Rules.{rules}
 use Rattle.collects.proofs.gather.shares_in.Goals as goal
-
-pub loop-u-init : goal.loop-u-init
-loop-u-init c = (search rules, below_none _)
-
-pub overflow_mul-u : goal.overflow_mul-u
-overflow_mul-u c =
-    let s = c.args in
-    omega (arith, small c.loop-u.u s.a 31 31 (omega arith) (omega arith))
 
 pub part-requires : goal.part-requires
 part-requires c =
@@ -24,6 +14,3 @@ pub loop-u-preserved : goal.loop-u-preserved
 loop-u-preserved c =
     let l = c.loop-u in
     (search rules, holds-store l.g c.part.result (search rules) l.invariant.1 c.part.ensures)
-
-pub returns : goal.returns
-returns c = λ i h. c.loop-u.invariant.1 i (omega arith)

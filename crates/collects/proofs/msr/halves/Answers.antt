@@ -8,12 +8,9 @@ use Rattle.collects.specs.Squares.{cells}
 use Rattle.algebra.specs.Frame.{skip}
 use Rattle.algebra.specs.Hollow.{first, second}
 use Rattle.collects.specs.Gather.{factors}
-use Rattle.collects.proofs.Gathering.{half-row, first-at, halves-none, halves-store}
+use Rattle.collects.proofs.Gathering.{half-row, first-at, halves-store}
 use borrow.Author.Rules.{rules}
 use Rattle.collects.proofs.msr.halves.Goals as goal
-
-pub loop-u-init : goal.loop-u-init
-loop-u-init c = (search rules, halves-none _ _ _ _ _)
 
 pub loop-u-preserved : goal.loop-u-preserved
 loop-u-preserved c =
@@ -33,8 +30,3 @@ loop-u-preserved c =
           (half-row s.w s.xs c.others.result u c.weights-f.result (second f R u) c.part_q-q.result b
           c.weights-f.ensures c.others.ensures c.part_q-q.ensures c.times-in-loop-u.ensures),
     )
-
-pub returns : goal.returns
-returns c =
-    let l = c.loop-u in
-    record { upper = λ u h. l.invariant.1.upper u (omega arith); lower = λ u h. l.invariant.1.lower u (omega arith) }

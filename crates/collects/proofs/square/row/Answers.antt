@@ -1,14 +1,11 @@
 -- `collects::square::row` meets its contract: before turn i, i places hold what f gives there.
 -- Assumes nothing.
-use mathlib.Core.Path.{◌∙◌, refl}
+use mathlib.Core.Path.{◌∙◌}
 use native.Mathlib.Omega.{arith}
-use borrow.Author.Count.{below_none, below_more}
+use borrow.Author.Count.{below_more}
 use lib.ListN.{get_or, set, length-set}
 use lib.Seq.{get_or-set_same, get_or-set_other}
 use Rattle.collects.proofs.square.row.Goals as goal
-
-pub loop-i-init : goal.loop-i-init
-loop-i-init g c = (refl, below_none _)
 
 pub loop-i-preserved : goal.loop-i-preserved
 loop-i-preserved g c =
@@ -19,6 +16,3 @@ loop-i-preserved g c =
           (λ i h. rw (get_or-set_other l.v l.i i y 0 (λ q. omega arith)) (l.invariant.1 i h))
           (rw (get_or-set_same l.v l.i y 0 (omega arith)) c.f.ensures),
     )
-
-pub returns : goal.returns
-returns g c = λ i h. c.loop-i.invariant.1 i (omega arith)

@@ -21,6 +21,3 @@ loop-j-preserved c =
       holds-store l.g _ (search rules) l.invariant.1
           (λ i h. c.times.ensures i h ∙ sym (pick-ge l.j s.from 𝟘 (dot s.n (cells s.y.now l.j) (cells s.f.now i)) l.auto.j)),
     )
-
-pub returns : goal.returns
-returns c = λ i h. c.loop-j.invariant.1 i (omega arith)
