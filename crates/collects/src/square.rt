@@ -72,7 +72,12 @@ pub fn times(f: &Square, y: &Row, m: usize, n: usize, t: &Products) -> Row
     requires { (m ≤ 31) × (n ≤ 31) }
     ensures { Same m (at result) (λ i. dot n (at y.now) (cells f.now i)) }
 {
-    row(m, |i| dot(y, &f[i], n, t))
+    let mut v = [0u8; 31];
+    // Stays: a loop, which is hot. By a closure it takes more instructions.
+    for i in 0..m {
+        v[i] = dot(y, &f[i], n, t);
+    }
+    v
 }
 
 // The same for each row of y from one row to another, as rows of a new square.
