@@ -3,7 +3,7 @@
 --   low_or_high                  a place below a bound, or not
 --   rows_fit                     row u of k rows of a bytes stands within k * a bytes
 --   skip-before, skip-after      the place where another is left out, as a number
---   second_at, first-at          an entry of Q and of P
+--   first-at                     an entry of P
 --   solved                       the weights of a solver, applied to values
 --   half-row                     the solution of the system without one point
 --   halves-none, halves-store    the rows of P and of Q solved, two a turn
@@ -85,10 +85,6 @@ skip-after (suc u) (suc i) h = ap suc (skip-after u i (le_of_suc-le-suc h)) ∙ 
 -- ---- P and Q
 
 module _ (l : Vec) (R : Grid) (t s : ℕ) where
-  pub second_at : (R t s ⊕ R s t) ⊗ inv (l t ⊕ l s) ≡ second l R t s
-  unfolding second
-  second_at = refl
-
   pub first-at : R t s ⊕ l t ⊗ second l R t s ≡ first l R t s
   unfolding first
   first-at = refl
