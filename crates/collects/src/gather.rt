@@ -72,15 +72,23 @@ fn shares_in(run: &[u8], k: usize, a: usize) -> Square
     g
 }
 
+// What a stripe is collected from: the points of the nodes, their shares as rows, and the products, which are made once.
+#[derive(Drop)]
+pub struct Shares {
+    pub points: Row,
+    pub rows: Square,
+    pub products: Products,
+}
+
 // The matrix that the shares give.
-fn gathered(accepted: Accepted, xs: Row, c: &Square, t: &Products) -> Square
-    ensures { From accepted.code.k (alpha accepted.code) xs c.now (λ X C. Holds (deep accepted.code) (alpha accepted.code) result (gathered accepted.code X C)) }
+fn gathered(accepted: Accepted, shares: &Shares) -> Square
+    ensures { From accepted.code.k (alpha accepted.code) shares.now.points shares.now.rows (λ X C. Holds (deep accepted.code) (alpha accepted.code) result (gathered accepted.code X C)) }
 {
     let code = accepted.code;
     if code.kind == 1 {
-        mbr(xs, c, code.k as usize, code.d as usize, t)
+        mbr(shares, code.k as usize, code.d as usize)
     } else {
-        msr(xs, c, (code.k - 1) as usize, t)
+        msr(shares, (code.k - 1) as usize)
     }
 }
 
@@ -105,9 +113,11 @@ pub fn gather(accepted: Accepted, nodes: &[u8], shares: &[u8], output: &mut [u8]
     ensures { output.new ≡ collected accepted.code nodes.now shares.now }
 {
     let code = accepted.code;
-    let t = Products::new();
-    let xs = points_of(code.points, nodes);
-    let c = shares_in(shares, code.k as usize, code.alpha());
-    let g = gathered(accepted, xs, &c, &t);
+    let given = Shares {
+        points: points_of(code.points, nodes),
+        rows: shares_in(shares, code.k as usize, code.alpha()),
+        products: Products::new(),
+    };
+    let g = gathered(accepted, &given);
     read_off(accepted, &g, output);
 }

@@ -6,7 +6,7 @@ ghost use Rattle.algebra.specs.Bytes.{at};
 ghost use Rattle.collects.specs.Squares.{cells, Holds};
 ghost use Rattle.collects.specs.Gather.{From, joined};
 
-use crate::gather::{powers_each, weights};
+use crate::gather::{Shares, powers_each, weights};
 use crate::square::{Row, Square, column, copy_rows, dot, flip, times_each};
 use field::Products;
 
@@ -36,15 +36,16 @@ fn rests(rows: &Square, y: &Square, far: &Square, k: usize, d: usize, t: &Produc
     g
 }
 
-// S beside T, from the shares c at the points xs.
-pub fn mbr(xs: Row, c: &Square, k: usize, d: usize, t: &Products) -> Square
+// S beside T, from the shares.
+pub fn mbr(shares: &Shares, k: usize, d: usize) -> Square
     requires { (k ≤ d) × (d ≤ 31) }
-    ensures { From k d xs c.now (λ X C. Holds k d result (joined k d X C)) }
+    ensures { From k d shares.now.points shares.now.rows (λ X C. Holds k d result (joined k d X C)) }
 {
-    let f = weights(xs, k);
-    let y = flip(c, d);
+    let t = &shares.products;
+    let f = weights(shares.points, k);
+    let y = flip(&shares.rows, d);
     let far = times_each(&f, &y, k, k, k, d, t);
-    let rows = powers_each(xs, k, d, t);
+    let rows = powers_each(shares.points, k, d, t);
     let left = rests(&rows, &y, &far, k, d, t);
     let near = times_each(&f, &left, k, k, 0, k, t);
     let g = copy_rows(far, 0, &near, 0, k);

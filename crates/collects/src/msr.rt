@@ -8,7 +8,7 @@ ghost use Rattle.algebra.specs.Bytes.{at};
 ghost use Rattle.collects.specs.Squares.{cells, Holds};
 ghost use Rattle.collects.specs.Gather.{From, factors, Halves, stacked};
 
-use crate::gather::{powers_each, weights};
+use crate::gather::{Shares, powers_each, weights};
 use crate::square::{Row, Square, copy_rows, flip, row, times, times_each};
 use field::Products;
 
@@ -63,13 +63,15 @@ fn halves(xs: Row, r: &Square, rows: &Square, w: usize, t: &Products) -> Square
     h
 }
 
-// S1 above S2, from the shares c at the points xs.
-pub fn msr(xs: Row, c: &Square, w: usize, t: &Products) -> Square
+// S1 above S2, from the shares.
+pub fn msr(shares: &Shares, w: usize) -> Square
     requires { w ≤ 15 }
-    ensures { From (w + 1) w xs c.now (λ X C. Holds (w + w) w result (stacked w X C)) }
+    ensures { From (w + 1) w shares.now.points shares.now.rows (λ X C. Holds (w + w) w result (stacked w X C)) }
 {
+    let t = &shares.products;
+    let xs = shares.points;
     let rows = powers_each(xs, w + 1, w + 1, t);
-    let r = times_each(&rows, c, w + 1, w, 0, w + 1, t);
+    let r = times_each(&rows, &shares.rows, w + 1, w, 0, w + 1, t);
     let h = halves(xs, &r, &rows, w, t);
     let f = weights(xs, w);
     let first = flip(&h, w);
