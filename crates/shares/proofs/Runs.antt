@@ -1,17 +1,17 @@
 -- Runs of bytes put one after the other.
 --   put_next        what is put behind a run that was put is put with it
 --   put_all         a run as long as what it is put over takes its place
---   lay             two runs put from the start of a third
---   drop-zeros      zeros without the first of them
 --   bytes-are       the bytes of a list of symbols
 --   node-is, stripe-is, help-is, code_is     the records' bytes
 -- Assumes nothing.
 use mathlib.Core.Path.{◌≡◌, ◌∙◌, refl, sym, ap, ap₂}
 use mathlib.Core.List.{List, [], ◌∷◌, ◌++◌, append_assoc, map}
-use Prim.Native.Nat.{ℕ, zero, suc, ◌+◌, ◌-◌, ◌<◌, ◌≤◌}
+use Prim.Native.Nat.{ℕ, ◌+◌, ◌-◌, ◌<◌, ◌≤◌}
 use native.Mathlib.Omega.{arith}
 use lib.ListN.{length, get_or, take, drop, replicate, length-append, length-map, get_or-map}
 use lib.Seq.{drop-drop, drop-length, ext_get_or}
+use borrow.Rule.Slice.PartMut.{put_mid}
+use Rattle.std.proofs.lemmas.List.{append-nil, drop-replicate}
 use Rattle.records.specs.Numbers.{digits}
 use Rattle.records.specs.Writing.{put_at}
 use Rattle.records.proofs.Runs.{length-put, drop-put, take_put}
@@ -38,30 +38,10 @@ module _ (o : List ℕ) (at : ℕ) (u w : List ℕ) (h : at + length u + length 
       ∙ ap (λ (k : ℕ). take at o ++ ((u ++ w) ++ drop k o)) (sym n)
       ∙ sym (put_in o at (u ++ w) (omega (arith, n)))
 
-append-nil : (l : List ℕ) → l ++ [] ≡ l
-append-nil [] = refl
-append-nil (x ∷ l) = ap (λ (k : List ℕ). x ∷ k) (append-nil l)
-
 pub put_all : (o u : List ℕ) → length u ≡ length o → put_at o 0 u ≡ u
 put_all o u e =
     let n : 0 + length u ≡ length o = omega (arith, e) in
     put_in o 0 u (omega arith) ∙ ap (λ (k : ℕ). u ++ drop k o) n ∙ ap (λ (k : List ℕ). u ++ k) (drop-length o) ∙ append-nil u
-
--- a head, and what follows it
-pub lay : (z h s : List ℕ) → length h + length s ≤ length z → put_at (put_at z 0 h) (length h) s ≡ h ++ (s ++ drop (length h + length s) z)
-lay z h s l =
-    let n : 0 + length h ≡ length h = omega arith in
-    let m : 0 + length (h ++ s) ≡ length h + length s = omega (arith, length-append h s) in
-    ap (λ (k : ℕ). put_at (put_at z 0 h) k s) (sym n) ∙ put_next z 0 h s (omega arith) ∙ put_in z 0 (h ++ s) (omega arith)
-    ∙ ap (λ (k : ℕ). (h ++ s) ++ drop k z) m ∙ append_assoc h s (drop (length h + length s) z)
-
-abbrev zeros : ℕ → List ℕ
-zeros n = replicate n 0
-
-pub drop-zeros : (n m : ℕ) → n ≤ m → drop n (zeros m) ≡ zeros (m - n)
-drop-zeros zero m h = let e : m ≡ m - 0 = omega arith in ap (λ (k : ℕ). zeros k) e
-drop-zeros (suc n) zero h = absurd (omega arith)
-drop-zeros (suc n) (suc m) h = let e : m - n ≡ suc m - suc n = omega arith in drop-zeros n m (omega arith) ∙ ap (λ (k : ℕ). zeros k) e
 
 -- ---- the records
 
@@ -79,20 +59,12 @@ pub help-is : (f h m i y : ℕ) (a b : List ℕ) → a ≡ digits 4 m → b ≡ 
 unfolding help_record digits
 help-is f h m i y a b e g = rw (e, g)
 
-pub stripe-is : (i : ℕ) (a s t w : List ℕ) → a ≡ digits 2 i → length s ≤ 31 → t ≡ put_at (zeros 34) 0 (0x44 ∷ get_or a 0 0 ∷ get_or a 1 0 ∷ [])
-    → w ≡ put_at t 3 s → w ≡ stripe_record i s
+pub stripe-is : (i : ℕ) (a h s t : List ℕ) → a ≡ digits 2 i → h ≡ 0x44 ∷ get_or a 0 0 ∷ get_or a 1 0 ∷ [] → s ≡ t
+    → (n : ℕ) → n ≡ length s → put_mid 3 n (h ++ replicate 31 0) s ≡ stripe_record i t
 unfolding stripe_record digits
-stripe-is i a s t w e l f g =
-    let h : List ℕ = 0x44 ∷ get_or a 0 0 ∷ get_or a 1 0 ∷ [] in
-    let d : drop (3 + length s) (zeros 34) ≡ zeros (31 - length s) =
-    drop-zeros (3 + length s) 34 (omega arith) ∙ (let k : 34 - (3 + length s) ≡ 31 - length s = omega arith in ap (λ (n : ℕ). zeros n) k) in
-    g ∙ ap (λ (x : List ℕ). put_at x 3 s) f ∙ lay (zeros 34) h s (omega arith) ∙ ap (λ (x : List ℕ). h ++ (s ++ x)) d ∙ rw e
+stripe-is i a h s t e f g n l = rw (f, e, l, drop-replicate {X = ℕ} (length s) 31 0, g)
 
-pub code_is : (c : Code) (p t w : List ℕ) → p ≡ map number_of c.points → length p ≡ 32
-    → t ≡ put_at (zeros 37) 0 (0x43 ∷ c.kind ∷ c.n ∷ c.k ∷ c.d ∷ []) → w ≡ put_at t 5 p → w ≡ code_record c
+pub code_is : (c : Code) (h p : List ℕ) → h ≡ 0x43 ∷ c.kind ∷ c.n ∷ c.k ∷ c.d ∷ [] → p ≡ map number_of c.points
+    → put_mid 5 32 (h ++ replicate 32 0) p ≡ code_record c
 unfolding code_record
-code_is c p t w e l f g =
-    let h : List ℕ = 0x43 ∷ c.kind ∷ c.n ∷ c.k ∷ c.d ∷ [] in
-    let d : drop (5 + length p) (zeros 37) ≡ [] =
-    drop-zeros (5 + length p) 37 (omega arith) ∙ (let k : 37 - (5 + length p) ≡ 0 = omega arith in ap (λ (n : ℕ). zeros n) k) in
-    g ∙ ap (λ (x : List ℕ). put_at x 5 p) f ∙ lay (zeros 37) h p (omega arith) ∙ ap (λ (x : List ℕ). h ++ (p ++ x)) d ∙ ap (λ (x : List ℕ). h ++ x) (append-nil p ∙ e)
+code_is c h p e f = rw (e, f, append-nil)

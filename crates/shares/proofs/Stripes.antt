@@ -1,15 +1,16 @@
 -- The D records of a share file, as the judge goes through them.
---   not-read, is_read     what a reading says of the test that a record stands there
---   read-body             where the body of a record that was read stands
---   spare-start, spare-next, spare-stop, spare-end     the symbols past the first a, one after the other
+--   not-read, err-read, is_read     what a reading says of the test that a record stands there
+--   read-start, node-room, stripe-room     where the body of a record that was read stands
+--   spare-from            the symbols past the first a
 --   stripe-none, stripe-other, stripe-spare            a D record by its parts
 -- Assumes nothing.
 use mathlib.Core.Path.{◌≡◌, ◌∙◌, refl, sym, ap}
-use mathlib.Core.Bool.{Bool, true, false, ◌&&◌, or-true}
+use mathlib.Core.Bool.{Bool, true, false, not, ◌&&◌}
 use mathlib.Core.List.{List}
-use Prim.Native.Nat.{ℕ, ◌+◌, ◌<◌, ◌≤◌}
+use Prim.Native.Nat.{ℕ, ◌+◌, ◌-◌, ◌<◌, ◌≤◌}
 use native.Mathlib.Omega.{arith}
 use borrow.Author.Tests.{lt-ltb, le-ltb, eq-eqb, ne_eqb}
+use lib.Dec.{eqb}
 use lib.ListN.{length, get_or}
 use Rattle.records.specs.Kinds.{body_of}
 use Rattle.records.specs.Numbers.{number_at}
@@ -17,7 +18,9 @@ use Rattle.records.specs.Reading.{found, no_record, whole_as, answered, read_as}
 use Rattle.records.proofs.Whole.{body-holds, as-kind, as_read, read-inside}
 use Rattle.shares.specs.Fields.{stripe_at}
 use Rattle.shares.specs.File.{below, zero_past, spare, stripe_good}
-use Rattle.shares.proofs.Below.{below_each, below_next, below-stop, below-fewer}
+use Rattle.std.specs.Result.{is_err}
+use Rattle.std.specs.List.{list_all, range_with_len}
+use Rattle.shares.proofs.Below.{below_each, below-from}
 
 -- ---- what was read
 
@@ -29,6 +32,13 @@ module _ (s : List ℕ) (place : ℕ) where
   pub not-read : (kind p : ℕ) → read_as s place kind ≡ no_record p → whole_as s place kind ≡ false
   not-read kind p e = refused-by (whole_as s place kind) p e
 
+  err-answered : (t : Bool) → is_err (answered t s place) ≡ not t
+  err-answered true = refl
+  err-answered false = refl
+
+  pub err-read : (kind : ℕ) → is_err (read_as s place kind) ≡ not (whole_as s place kind)
+  err-read kind = err-answered (whole_as s place kind)
+
   module _ (kind start end next : ℕ) (e : read_as s place kind ≡ found start end next) where
     pub is_read : whole_as s place kind ≡ true
     is_read = (body-holds s place (whole_as s place kind) start end next e).0
@@ -36,12 +46,16 @@ module _ (s : List ℕ) (place : ℕ) where
     pub read-start : start ≡ place + 1
     read-start = (read-inside s place start end next (as_read s place kind start end next e)).start_is
 
-    pub read-room : start + body_of kind ≤ length s
+    read-room : start + body_of kind ≤ length s
     read-room =
         let i = read-inside s place start end next (as_read s place kind start end next e) in
         omega (arith, i.end_is, i.fits, ap body_of (as-kind s place kind start end next e))
 
--- the body of a D record
+-- the bodies of an N record and of a D record
+pub node-room : (s : List ℕ) (place start end next : ℕ) → read_as s place 0x4E ≡ found start end next → start < length s
+unfolding body_of
+node-room s place start end next e = omega (arith, read-room s place 0x4E start end next e)
+
 pub stripe-room : (s : List ℕ) (place start end next : ℕ) → read_as s place 0x44 ≡ found start end next → start + 33 ≤ length s
 unfolding body_of
 stripe-room s place start end next e = read-room s place 0x44 start end next e
@@ -49,19 +63,12 @@ stripe-room s place start end next e = read-room s place 0x44 start end next e
 -- ---- the symbols past the first a
 
 module _ (a : ℕ) (s : List ℕ) (at : ℕ) where
-  pub spare-start : below a (zero_past a s at) ≡ true
+  spare-start : below a (zero_past a s at) ≡ true
   spare-start = below_each a (zero_past a s at) (λ j h. simp (lt-ltb j a h))
 
-  pub spare-next : (j : ℕ) → below j (zero_past a s at) ≡ true → get_or s (at + j) 0 ≡ 0 → below (j + 1) (zero_past a s at) ≡ true
-  spare-next j e h = below_next j (zero_past a s at) e (simp (eq-eqb _ _ h, or-true))
-
-  pub spare-stop : (j : ℕ) → a ≤ j → j < 31 → (get_or s (at + j) 0 ≡ 0 → ⊥) → false ≡ spare a s at
+  pub spare-from : list_all (λ (j : ℕ). eqb (get_or s (at + j) 0) 0) (range_with_len a (31 - a)) ≡ spare a s at
   unfolding spare
-  spare-stop j h l n = sym (below-stop 31 (zero_past a s at) j l (simp (le-ltb j a h, ne_eqb _ _ n)))
-
-  pub spare-end : (j : ℕ) → 31 ≤ j → below j (zero_past a s at) ≡ true → true ≡ spare a s at
-  unfolding spare
-  spare-end j h e = sym (below-fewer 31 j (zero_past a s at) h e)
+  spare-from = below-from (zero_past a s at) (λ (j : ℕ). eqb (get_or s (at + j) 0) 0) a 31 spare-start (λ j l. simp (le-ltb j a l))
 
 -- ---- a D record
 

@@ -5,16 +5,13 @@ ghost use Rattle.codes.specs.Judge.{pair_in, say_judged};
 ghost use Rattle.shares.specs.File.{totalled};
 ghost use Rattle.shares.specs.Total.{code_reasons};
 
-use codes::{Accepted, Code, Refusal, judge};
+use codes::{Accepted, Code, Refusal, is_known, judge};
 
 // Whether a stripe total is within its rule.
 pub fn is_total(t: u32) -> bool
     ensures { result ≡ totalled t }
 {
-    if t < 1 {
-        return false;
-    }
-    t <= 1024
+    (1..=1024).contains(&t)
 }
 
 // Refusals 2, 3 and 4 of a code and a stripe total.
@@ -22,14 +19,11 @@ pub fn judge_total(code: Code, t: u32) -> Result<Accepted, Refusal>
     ensures answer { say_judged result ≡ answered (code_reasons code (not (totalled t))) (pair_in code) 0 }
     ensures same { IfOk result (λ a. a.code ≡ code) }
 {
-    let judged = judge(code);
-    if is_total(t) {
-        return judged;
+    if !is_known(code.kind) {
+        return Err(Refusal::Kind);
     }
-    if let Err(r) = judged {
-        if r.number() == 2 {
-            return judged;
-        }
+    if !is_total(t) {
+        return Err(Refusal::Size);
     }
-    Err(Refusal::Size)
+    judge(code)
 }

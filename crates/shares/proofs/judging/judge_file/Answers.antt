@@ -1,24 +1,24 @@
 -- `judging::judge_file` meets its contract: the C record, then its code, then what follows.
 -- Assumes nothing.
-use mathlib.Core.Path.{◌∙◌, sym, ap}
-use Rattle.codes.specs.Judge.{say_judged}
-use Rattle.shares.proofs.Stripes.{not-read, is_read}
+use mathlib.Core.Path.{sym}
+use borrow.Author.Tests.{not-true, not-false}
+use Rattle.std.proofs.lemmas.Result.{err_from_is_err_and}
+use Rattle.shares.proofs.Stripes.{err-read}
 use Rattle.shares.proofs.Ladder.{no_code, bad-code, good-code}
 use Rattle.shares.proofs.judging.judge_file.Goals as goal
 
-pub returns-in_default : goal.returns-in_default
-returns-in_default c =
-    let s = c.args.file.now in
-    no_code s (not-read s 0 0x43 _ (sym c.read_as-found.ensures.answer ∙ c.in_default.is))
+pub returns-then-is_err : goal.returns-then-is_err
+returns-then-is_err c =
+    let e = err-read c.args.file.now 0 0x43 in
+    no_code _ (not-true _ (cc))
 
-pub returns-in-Refused : goal.returns-in-Refused
-returns-in-Refused c =
-    let s = c.args.file.now in
-    bad-code s (is_read s 0 0x43 _ _ _ (sym c.read_as-found.ensures.answer ∙ c.in-Body.is)) _ c.code_in-code.ensures _
-    (ap say_judged (sym c.in-Refused.is) ∙ c.judge-judged.ensures)
+pub returns-in_err-code : goal.returns-in_err-code
+returns-in_err-code c =
+    let e = err-read c.args.file.now 0 0x43 in
+    let p = err_from_is_err_and c.from_residual.result c.from_residual.ensures.1 in
+    rw (p.1, p.2) (bad-code _ (not-false _ (cc)) _ c.code_in.ensures _ c.in_err-code.ensures.answer)
 
 pub returns : goal.returns
 returns c =
-    let s = c.args.file.now in
-    good-code s (is_read s 0 0x43 _ _ _ (sym c.read_as-found.ensures.answer ∙ c.in-Body.is)) _ c.code_in-code.ensures
-    (ap say_judged (sym c.in_default-judged.is) ∙ c.judge-judged.ensures) _ c.judge_rest.ensures
+    let e = err-read c.args.file.now 0 0x43 in
+    good-code _ (not-false _ (cc)) _ c.code_in.ensures c.in_ok-code.ensures.answer _ c.judge_rest.ensures

@@ -1,32 +1,14 @@
--- `totals::judge_total` meets its contract: a total within its rule changes nothing, and another is refused before the points.
+-- `totals::judge_total` meets its contract: an unknown kind comes first, then a total outside its rule; another total changes nothing.
 -- Assumes nothing.
-use mathlib.Core.Path.{◌∙◌, sym, ap}
-use mathlib.Core.Bool.{not}
-use native.Mathlib.Omega.{arith}
-use Rattle.codes.specs.Judge.{say_judged}
-use Rattle.codes.specs.declared.Judged.{Judged}
+use mathlib.Core.Path.{◌∙◌}
 use Rattle.shares.proofs.Sizing.{total-fits, kind-first, size-next}
 use Rattle.shares.proofs.totals.judge_total.Goals as goal
 
-pub returns-then-is_total : goal.returns-then-is_total
-returns-then-is_total c = c.judge-judged.ensures ∙ total-fits _ _ (ap not (sym c.is_total.ensures ∙ c.if-is_total.true))
+pub returns-clause-answer : goal.returns-clause-answer
+returns-clause-answer c = c.judge.ensures.answer ∙ total-fits _ _ (cc)
 
-pub returns-then-number-eq2 : goal.returns-then-number-eq2
-returns-then-number-eq2 c =
-    let b = ap not (sym c.is_total.ensures ∙ c.if-is_total.false) in
-    let e = c.judge-judged.ensures in
-    kind-first _ _ b _ (ap say_judged (sym c.in-Refused.is) ∙ e) (sym c.number.ensures ∙ c.if-number-eq2.true)
+pub returns-then-not-is_known : goal.returns-then-not-is_known
+returns-then-not-is_known c = record { answer = kind-first _ _ (cc); same = tt }
 
-pub returns-else-number-eq2 : goal.returns-else-number-eq2
-returns-else-number-eq2 c =
-    let b = ap not (sym c.is_total.ensures ∙ c.if-is_total.false) in
-    let e = c.judge-judged.ensures in
-    let n = ap (λ (x : Judged). (say_judged x).number) c.in-Refused.is in
-    size-next _ _ b _ e (λ z. c.if-number-eq2.false (c.number.ensures ∙ sym n ∙ z))
-
-pub returns-in_default : goal.returns-in_default
-returns-in_default c =
-    let b = ap not (sym c.is_total.ensures ∙ c.if-is_total.false) in
-    let e = c.judge-judged.ensures in
-    let n = ap (λ (x : Judged). (say_judged x).number) c.in_default.is in
-    size-next _ _ b _ e (λ z. omega (arith, sym n ∙ z))
+pub returns-then-not-is_total : goal.returns-then-not-is_total
+returns-then-not-is_total c = record { answer = size-next _ _ (cc) (cc); same = tt }

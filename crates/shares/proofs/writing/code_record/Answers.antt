@@ -1,13 +1,12 @@
 -- `writing::code_record` meets its contract: the head, then the points, over zeros.
 -- Assumes nothing.
-use mathlib.Core.Path.{◌≡◌}
-use lib.ListN.{length}
-use Rattle.shares.proofs.Runs.{code_is}
-use borrow.Author.Rules.{rules}
+use Rattle.std.proofs.Common.{◌∙◌, rules}
+use Rattle.codes.specs.Sizes.{none}
+use Rattle.shares.proofs.Runs.{code_is, bytes-are}
 use Rattle.shares.proofs.writing.code_record.Goals as goal
 
 pub returns : goal.returns
 returns c =
-    let p = c.point_bytes-body in
-    let l : length p.result ≡ 32 = search rules in
-    code_is c.args.code p.result _ _ p.ensures l c.put.ensures.left c.put-2.ensures.left
+    let m = c.map.ensures.items in
+    let bytes = bytes-are c.args.code.points c.map.result (search rules) m.long (λ j h. let k = m.at j none 0 h in search rules) in
+    code_is c.args.code _ _ c.copy_from_slice.ensures.after (c.copy_from_slice-2.ensures.after ∙ bytes)

@@ -4,4 +4,4 @@ use Rattle.shares.proofs.Runs.{help-is}
 use Rattle.shares.proofs.writing.help_record.Goals as goal
 
 pub returns : goal.returns
-returns c = help-is _ _ _ _ _ _ _ c.bytes4-m.ensures c.bytes2-i.ensures
+returns c = help-is _ _ _ _ _ _ _ c.bytes4.ensures c.bytes2.ensures
