@@ -1,7 +1,6 @@
 -- Lists of the values of a function: a field of each record of a batch.
 --   length-list, list_at     the length, and what stands at a place
 --   listed                   the first n of a list, where each is the function's value
---   same_lists               two lists with the same first n bytes
 --   every-each, every-at     a test over the list is that test at each number, and back
 -- Assumes nothing.
 use mathlib.Core.Path.{◌≡◌, ◌∙◌, refl, sym, ap}
@@ -10,14 +9,10 @@ use mathlib.Core.List.{List}
 use Prim.Native.Nat.{ℕ, zero, suc, ◌<◌, ◌≤◌}
 use native.Mathlib.Nat.{not-suc-le-zero}
 use native.Mathlib.Omega.{arith}
-use borrow.Author.Tests.{eqb-true}
-use lib.Dec.{eqb}
 use lib.ListN.{length, get_or, take}
 use lib.Seq.{ext_get_or, get_or-take, length-take-le}
 use Rattle.codes.proofs.Bools.{both, and_left, and_right}
 use Rattle.stripes.specs.Lists.{every}
-use Rattle.shares.specs.File.{below}
-use Rattle.shares.proofs.Below.{below_at}
 use Rattle.batches.specs.Batch.{list_of}
 
 pub length-list : (n : ℕ) (f : ℕ → ℕ) → length (list_of n f) ≡ n
@@ -36,11 +31,6 @@ listed n f xs h each =
     let e : length (take n xs) ≡ n = length-take-le n xs h in
     ext_get_or 0 (take n xs) (list_of n f) (e ∙ sym (length-list n f))
     (λ i k. let l : i < n = omega arith in get_or-take n xs i 0 l ∙ each i l ∙ sym (list_at n f i l))
-
-pub same_lists : (n : ℕ) (xs ys : List ℕ) → n ≤ length xs → n ≤ length ys → below n (λ i. eqb (get_or xs i 0) (get_or ys i 0)) ≡ true → take n xs ≡ take n ys
-same_lists n xs ys h k e =
-    listed n (λ i. get_or ys i 0) xs h (λ i l. eqb-true (get_or xs i 0) (get_or ys i 0) (below_at n (λ i. eqb (get_or xs i 0) (get_or ys i 0)) e i l))
-    ∙ sym (listed n (λ i. get_or ys i 0) ys k (λ i l. refl))
 
 pub every-each : (n : ℕ) (f : ℕ → ℕ) (p : ℕ → Bool) → ((i : ℕ) → i < n → p (f i) ≡ true) → every p (list_of n f) ≡ true
 unfolding list_of every

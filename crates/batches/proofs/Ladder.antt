@@ -2,8 +2,8 @@
 --   ladder kinds nodes twice mixed placed    the faults of a batch, by their tests: 1, 6, 7, 8, 10
 --   by_kind, by-node, by-repeat, by-mixed, by_place, by-none    which of them decides
 --   staged front long after                  reasons in front, then 5, then others
---   by_front, by_length, by_after            which of them decides
---   clear-parts                              no reason holds of two lists of reasons, one after the other
+--   by_length, by_after                      which of them decides
+--   numbered-parts                           two lists of reasons, one after the other
 -- Assumes nothing.
 use mathlib.Core.Path.{◌≡◌, ◌∙◌, sym, ap}
 use mathlib.Core.Bool.{Bool, true, false, not}
@@ -13,10 +13,9 @@ use native.Mathlib.Omega.{arith}
 use lib.Dec.{eqb}
 use Rattle.codes.specs.Told.{Reason, ◌when◌, refused, done, answered}
 use Rattle.codes.specs.Reasons.{Clear, numbered}
-use Rattle.codes.specs.declared.Refusal.{Refusal}
 use Rattle.codes.specs.declared.Refusal.TheVariants.{Record, Length, Node, Repeat, Mixed, Place}
 use Rattle.codes.proofs.Bools.{both, and_left, and_right}
-use Rattle.codes.proofs.Told.{answered-skip, answered-none, refused-first, answered-hand-on, answered-goes-on}
+use Rattle.codes.proofs.Told.{answered-skip, answered-none, refused-first, answered-goes-on}
 
 module _ (p : ℕ × ℕ) where
   module _ (kinds nodes twice mixed placed : Bool) where
@@ -58,19 +57,12 @@ module _ (p : ℕ × ℕ) where
     abbrev pub staged : List Reason
     staged = front ++ ((5 when not long) ∷ after)
 
-    pub by_front : (r : Refusal) → refused r ≡ answered front p 0 → refused r ≡ answered staged p 0
-    by_front r e = answered-hand-on r front _ p 0 0 e
-
     module _ (h : Clear front) where
       pub by_length : long ≡ false → refused Length ≡ answered staged p 0
       by_length e = refused-first Length _ p 0 (λ z. omega arith) (ap not e) ∙ sym (answered-goes-on front _ p 0 h)
 
       pub by_after : long ≡ true → answered after p 0 ≡ answered staged p 0
       by_after e = sym (answered-goes-on front _ p 0 h ∙ answered-skip 5 after p 0 (ap not e))
-
-pub clear-parts : (rs more : List Reason) → Clear (rs ++ more) → Clear rs × Clear more
-clear-parts [] more h = (tt, h)
-clear-parts (r ∷ rs) more h = let q = clear-parts rs more h.1 in ((h.0, q.0), q.1)
 
 pub numbered-parts : (rs more : List Reason) → numbered rs ≡ true → numbered more ≡ true → numbered (rs ++ more) ≡ true
 numbered-parts [] more e f = f

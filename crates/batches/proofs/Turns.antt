@@ -1,7 +1,4 @@
 -- The batches of a file in turn.
---   batch-fits         each has d records;   batch-ends    it stands inside the run;   part-is    it is that part of the run
---   first_fits         the first one stands inside the run;   product_small    a run's length is a small number
---   batch-bytes        its symbols are bytes
 --   turns-none         no batch, no reason
 --   turn-stops         a refusal by the batch in turn is the refusal by all from it on
 --   turn-goes-on       a batch without a fault leaves the answer to those after it
@@ -10,41 +7,18 @@
 use mathlib.Core.Path.{◌≡◌, ◌∙◌, refl, sym, ap}
 use mathlib.Core.Bool.{Bool, true}
 use mathlib.Core.List.{List, ◌++◌}
-use Prim.Native.Nat.{ℕ, zero, suc, ◌+◌, ◌*◌, ◌-◌, ◌<◌, ◌≤◌}
-use native.Mathlib.Nat.{mul-le-mul, mul-le-mul_right, suc-mul}
+use Prim.Native.Nat.{ℕ, zero, suc, ◌+◌, ◌-◌, ◌<◌}
 use native.Mathlib.Numerals.{add-one}
 use native.Mathlib.Omega.{arith}
-use lib.ListN.{length, get_or, take, drop, length-take, length-drop}
 use Rattle.codes.specs.Told.{Reason, refused, done, answered}
 use Rattle.codes.specs.Reasons.{numbered}
 use Rattle.codes.specs.Judge.{pair_in}
 use Rattle.codes.specs.declared.Code.{Code}
 use Rattle.codes.specs.declared.Refusal.{Refusal}
 use Rattle.codes.proofs.Told.{answered-hand-on, answered-goes-on, answered-none, done-clear}
-use Rattle.shares.proofs.Parts.{part-byte}
-use Rattle.batches.specs.Batch.{faults, count_at, symbol_in}
+use Rattle.batches.specs.Batch.{faults, count_at}
 use Rattle.batches.specs.Whole.{batch_of, turn_faults, faults_from}
 use Rattle.batches.proofs.Ladder.{numbered-parts}
-
-pub batch-ends : (size i t : ℕ) → i < t → i * size + size ≤ t * size
-batch-ends size i t h = rw (← (suc-mul i size)) (mul-le-mul_right size h)
-
-pub first_fits : (size t : ℕ) → 1 ≤ t → size ≤ t * size
-first_fits size t h = omega (arith, batch-ends size 0 t h)
-
-pub product_small : (t n : ℕ) → t ≤ 1024 → n ≤ 2550 → t * n ≤ 2611200
-product_small t n h k = mul-le-mul {n₁ = t} {m₁ = n} {n₂ = 1024} {m₂ = 2550} h k
-
-pub part-is : (size i : ℕ) (bs : List ℕ) → take (i * size + size - i * size) (drop (i * size) bs) ≡ take size (drop (i * size) bs)
-part-is size i bs = let e : i * size + size - i * size ≡ size = omega arith in ap (λ (n : ℕ). take n (drop (i * size) bs)) e
-
-pub batch-bytes : (d i : ℕ) (bs : List ℕ) → ((k : ℕ) → get_or bs k 0 < 256) → (t : ℕ) → t < d → symbol_in (batch_of d bs i) t < 256
-batch-bytes d i bs bytes t h =
-    omega (arith, part-byte bs (i * (d * 10)) (d * 10) (10 * t + 9) (omega arith), bytes (i * (d * 10) + (10 * t + 9)))
-
-pub batch-fits : (d i t : ℕ) (bs : List ℕ) → i < t → length bs ≡ t * (d * 10) → length (batch_of d bs i) ≡ d * 10
-batch-fits d i t bs h e =
-    omega (arith, length-take (d * 10) (drop (i * (d * 10)) bs), length-drop (i * (d * 10)) bs, batch-ends (d * 10) i t h)
 
 pub faults-numbered : (c : Code) (a : ℕ) (b : List ℕ) (other placed : Bool) → numbered (faults c a b other placed) ≡ true
 unfolding faults

@@ -4,7 +4,7 @@
 #![tactic(auto)]
 
 mod batch; // batch.rt: one batch
-mod columns; // columns.rt: the same byte of each record of a batch, as a list
+mod columns; // columns.rt: a batch, and what its records say
 mod faults; // faults.rt: what is wrong with one batch
 mod stripe; // stripe.rt: the D record that a batch gives
 mod whole; // whole.rt: a whole file from a batch for each stripe

@@ -1,36 +1,25 @@
 // The D record that a batch gives, by a plan that was made for its helpers.
-ghost use Rattle.std.specs.Prelude.{◌≡◌, ◌≤◌, replicate};
+ghost use Rattle.std.specs.Prelude.{◌≡◌, ℕ};
 ghost use Rattle.records.specs.Writing.{put_at};
-ghost use Rattle.codes.specs.Sizes.{alpha};
-ghost use Rattle.rebuilds.specs.Plan.{applied};
-ghost use Rattle.shares.specs.Fields.{stripe_record};
-ghost use Rattle.batches.specs.Batch.{stripe_named, symbols_in};
-ghost use Rattle.batches.specs.Tests.{Fits};
+ghost use Rattle.rebuilds.specs.Plan.{plan_of};
+ghost use Rattle.batches.specs.Batch.{helpers_in, rebuilt_record};
 
-use crate::columns::{STRIPE, SYMBOL, column};
-use codes::Code;
+use crate::columns::{Batch, SYMBOL};
+use field::Products;
 use rebuilds::{Plan, rebuild_by};
-use records::numbers::number2;
 use records::writing::put;
 use shares::stripe_record;
 
-// Puts the D record at a place of the output.
-pub fn write_stripe(
-    code: Code,
-    plan: &Plan,
-    t: &[u8; 768],
-    batch: &[u8],
-    output: &mut [u8],
-    at: usize,
-)
-    requires { (alpha code ≤ 31) × Fits code.d batch.now }
-    ensures { output.new ≡ put_at output.old at (stripe_record (stripe_named batch.now 0) (applied plan.now t.now (symbols_in code.d batch.now) (replicate (alpha code) 0))) }
-{
-    let d = code.d as usize;
-    let a = code.alpha();
-    let symbols = column(batch, d, SYMBOL);
-    let mut share = [0u8; 31];
-    rebuild_by(plan, t, &symbols[..d], &mut share[..a]);
-    let stripe = number2(batch, STRIPE);
-    put(output, at, &stripe_record(stripe, &share[..a]));
+impl Batch<'_> {
+    // Puts the D record at a place of the output, by a plan that the batch's helpers give for an asked node.
+    pub fn write(&self, plan: &Plan, t: &Products, output: &mut [u8], at: usize)
+        ensures { (a : ℕ) → plan.now ≡ plan_of self.now.code.code a (helpers_in self.now.code.code.d self.now.bytes.now) → output.new ≡ put_at output.old at (rebuilt_record self.now.code.code a self.now.bytes.now) }
+    {
+        let d = self.d();
+        let a = self.code.code.alpha();
+        let symbols = self.column(SYMBOL);
+        let mut share = [0; 31];
+        rebuild_by(plan, &t.bytes, &symbols[..d], &mut share[..a]);
+        put(output, at, &stripe_record(self.stripe(), &share[..a]));
+    }
 }

@@ -1,88 +1,105 @@
 // A whole share file rebuilt from a batch for each stripe. All batches are judged before anything is written.
-ghost use Rattle.std.specs.Prelude.{◌≡◌, List, ℕ, ◌*◌, ◌≤◌, length};
+ghost use Rattle.std.specs.Prelude.{◌≡◌, ◌*◌, ◌≤◌, ◌<◌, length, IfOk};
 ghost use Rattle.records.specs.Writing.{put_at};
 ghost use Rattle.codes.specs.Told.{answered};
 ghost use Rattle.codes.specs.Judge.{pair_in, say_judged};
-ghost use Rattle.codes.specs.Rules.{Rules};
 ghost use Rattle.rebuilds.specs.Rebuild.{say_counted};
 ghost use Rattle.shares.specs.Fields.{stripe_at};
-ghost use Rattle.batches.specs.Whole.{turn_faults, faults_from, records_from, whole_reasons, whole_told, whole_leaves};
-ghost use Rattle.batches.specs.Tests.{Fits};
+ghost use Rattle.batches.specs.Batch.{count_at};
+ghost use Rattle.batches.specs.Whole.{batch_of, faults_from, records_from, whole_reasons, whole_told, whole_leaves};
 
-use crate::columns::{COUNT, HELPER, STRIPE, are_same, column};
-use crate::faults::judge_faults;
-use crate::stripe::write_stripe;
-use codes::{Code, Node, Refusal};
-use rebuilds::plan;
-use records::numbers::{number2, number4};
+use crate::columns::{Batch, COUNT, HELPER};
+use codes::{Accepted, Code, Node, Refusal};
+use field::Products;
+use records::numbers::number4;
 use records::writing::put;
 use shares::{code_record, judge_total, node_record, stripe_at};
 
-// The first fault of the batch i of a file of that count.
-fn judge_turn(code: Code, asked: u8, batch: &[u8], count: u32, i: u16) -> Result<(), Refusal>
-    requires { (1 ≤ code.d) × Fits code.d batch.now }
-    ensures { say_judged result ≡ answered (turn_faults code asked batch.now count i) (pair_in code) 0 }
-{
-    let other = number4(batch, COUNT) != count;
-    let placed = number2(batch, STRIPE) == i;
-    judge_faults(code, asked, batch, other, placed)
+// The batches of a file, one for each stripe, one after the other.
+#[derive(Clone, Copy)]
+struct Batches<'a> {
+    code: Accepted,
+    total: u16,
+    bytes: &'a [u8],
+    ghost whole: { length bytes.now ≡ total * (code.code.d * 10) },
 }
 
-// The first fault of all batches in turn.
-fn judge_batches(code: Code, asked: u8, total: u16, batches: &[u8]) -> Result<(), Refusal>
-    requires { Rules code × (length batches.now ≡ total * (code.d * 10)) }
-    ensures { say_judged result ≡ answered (faults_from code asked batches.now 0 total) (pair_in code) 0 }
-{
-    let size = (code.d as usize) * 10;
-    let count = number4(batches, COUNT);
-    let mut i: u16 = 0;
-    while i < total {
-        let start = (i as usize) * size;
-        let end = start + size;
-        judge_turn(code, asked, &batches[start..end], count, i)?;
-        i += 1;
-    }
-    Ok(())
-}
-
-// The refusals of a file's rebuild into an output with room for so many bytes.
-fn judge_whole(code: Code, asked: u8, stripes: u32, batches: &[u8], room: usize) -> Result<(), Refusal>
-    ensures { (o : List ℕ) → length o ≡ room → say_judged result ≡ answered (whole_reasons code asked stripes batches.now o) (pair_in code) 0 }
-{
-    judge_total(code, stripes)?;
-    let total = stripes as u16;
-    let d = code.d as usize;
-    if batches.len() != (stripes as usize) * (d * 10) {
-        return Err(Refusal::Length);
-    }
-    if room != stripe_at(total) {
-        return Err(Refusal::Length);
-    }
-    judge_batches(code, asked, total, batches)
-}
-
-// Puts the D records of all batches behind the first 45 bytes. A plan serves as long as the helpers stay the same.
-fn write_stripes(code: Code, asked: Node, total: u16, batches: &[u8], output: &mut [u8])
-    requires { Rules code × (1 ≤ total) × (length batches.now ≡ total * (code.d * 10)) × (length output.old ≡ stripe_at total) }
-    ensures { output.new ≡ put_at output.old 45 (records_from code asked.0 batches.now 0 total) }
-{
-    let t = field::tables();
-    let d = code.d as usize;
-    let mut nodes = column(batches, d, HELPER);
-    let mut p = plan(code, asked, &nodes[..d]);
-    let mut i: u16 = 0;
-    while i < total {
-        let start = (i as usize) * (d * 10);
-        let end = start + d * 10;
-        let batch = &batches[start..end];
-        let next = column(batch, d, HELPER);
-        if !are_same(&nodes, &next, d) {
-            p = plan(code, asked, &next[..d]);
-            nodes = next;
+impl Batches<'_> {
+    // The batch of the stripe i.
+    fn of(&self, i: u16) -> Batch<'_>
+        requires { i < self.now.total }
+        ensures code { result.code.code ≡ self.now.code.code }
+        ensures bytes { result.bytes.now ≡ batch_of self.now.code.code.d self.now.bytes.now i }
+    {
+        let size = usize::from(self.code.code.d) * 10;
+        let start = usize::from(i) * size;
+        Batch {
+            code: self.code,
+            bytes: &self.bytes[start..start + size],
         }
-        write_stripe(code, &p, &t, batch, output, stripe_at(i));
-        i += 1;
     }
+
+    // The file's count: that of the first record.
+    fn count(&self) -> u32
+        ensures { result ≡ count_at self.now.bytes.now 0 }
+    {
+        number4(self.bytes, COUNT)
+    }
+
+    // The first fault of all batches in turn.
+    fn judge(&self, asked: Node) -> Result<(), Refusal>
+        ensures { say_judged result ≡ answered (faults_from self.now.code.code asked.0 self.now.bytes.now 0 self.now.total) (pair_in self.now.code.code) 0 }
+    {
+        let count = self.count();
+        for i in 0..self.total {
+            let batch = self.of(i);
+            batch.judge(asked, batch.count() != count, batch.stripe() == i)?;
+        }
+        Ok(())
+    }
+
+    // Puts the D records of all batches behind the first 45 bytes. A plan serves as long as the helpers stay the same.
+    fn write(&self, asked: Node, output: &mut [u8])
+        requires some { 1 ≤ self.now.total }
+        requires room { length output.old ≡ stripe_at self.now.total }
+        ensures { output.new ≡ put_at output.old 45 (records_from self.now.code.code asked.0 self.now.bytes.now 0 self.now.total) }
+    {
+        let t = Products::new();
+        let first = self.of(0);
+        let mut helpers = first.column(HELPER);
+        let mut plan = first.plan(asked);
+        for i in 0..self.total {
+            let batch = self.of(i);
+            let next = batch.column(HELPER);
+            if next != helpers {
+                plan = batch.plan(asked);
+                helpers = next;
+            }
+            batch.write(&plan, &t, output, stripe_at(i));
+        }
+    }
+}
+
+// The batches of so many bytes, where a file's rebuild from them into the output is not refused.
+fn judge_whole<'a>(
+    code: Code,
+    asked: Node,
+    stripes: u32,
+    bytes: &'a [u8],
+    output: &[u8],
+) -> Result<Batches<'a>, Refusal>
+    ensures answer { say_judged result ≡ answered (whole_reasons code asked.0 stripes bytes.now output.now) (pair_in code) 0 }
+    ensures same { IfOk result (λ b. (b.code.code ≡ code) × (b.total ≡ stripes) × (b.bytes.now ≡ bytes.now) × (1 ≤ stripes) × (length output.now ≡ stripe_at stripes)) }
+{
+    let code = judge_total(code, stripes)?;
+    let total = stripes as u16;
+    let size = usize::from(code.code.d) * 10;
+    if bytes.len() != usize::from(total) * size || output.len() != stripe_at(total) {
+        return Err(Refusal::Length);
+    }
+    let batches = Batches { code, total, bytes };
+    batches.judge(asked)?;
+    Ok(batches)
 }
 
 // Rebuilds the asked node's share file from one batch for each stripe, at the helpers' count.
@@ -96,11 +113,10 @@ pub fn rebuild_file(
     ensures told { say_counted result ≡ whole_told code asked.0 stripes batches.now output.old }
     ensures left { output.new ≡ whole_leaves code asked.0 stripes batches.now output.old }
 {
-    judge_whole(code, asked.0, stripes, batches, output.len())?;
-    let count = number4(batches, COUNT);
-    let total = stripes as u16;
+    let batches = judge_whole(code, asked, stripes, batches, output)?;
+    let count = batches.count();
     put(output, 0, &code_record(code));
-    put(output, 37, &node_record(asked, total, count));
-    write_stripes(code, asked, total, batches, output);
+    put(output, 37, &node_record(asked, batches.total, count));
+    batches.write(asked, output);
     Ok(count)
 }

@@ -1,82 +1,42 @@
 -- `batch::rebuild_batch` meets its contract: a refusal of the tests is handed on, else the plan of the helpers gives the record.
 -- Assumes nothing.
-use mathlib.Core.Path.{◌≡◌, ◌∙◌, refl, sym, ap, ap₂}
-use mathlib.Core.List.{List}
-use Prim.Native.Nat.{ℕ, ◌+◌, ◌*◌}
-use native.Mathlib.Omega.{arith}
-use lib.ListN.{length, replicate}
-use lib.Seq.{length-take-le}
-use Rattle.records.specs.Writing.{put_at}
+use Rattle.std.proofs.Common.{◌∙◌, sym, ap}
 use Rattle.codes.specs.Told.{done}
-use Rattle.codes.specs.Judge.{pair_in, say_judged}
+use Rattle.codes.specs.Judge.{pair_in}
 use Rattle.codes.proofs.Sizes.{d-high, alpha-high}
-use Rattle.rebuilds.proofs.Rebuilding.{good-is}
-use Rattle.codes.specs.Sizes.{alpha}
-use Rattle.rebuilds.specs.Plan.{plan_of, applied}
+use Rattle.codes.proofs.Told.{handed-on}
 use Rattle.rebuilds.proofs.Answers.{refused-told, refused-leaves, done-told, done-leaves}
-use Rattle.shares.specs.Fields.{stripe_record}
 use Rattle.shares.proofs.Runs.{put_all}
-use Rattle.batches.specs.Batch.{count_at, stripe_named, symbols_in, rebuilt_record, batch_reasons, batch_told, batch_leaves}
-use Rattle.batches.proofs.Answers.{batch-held, batch-numbered}
-use Rattle.batches.proofs.Records.{record_is, record-length}
-use borrow.Author.Rules.{rules}
+use Rattle.batches.specs.Batch.{count_at, rebuilt_record, batch_reasons, batch_told, batch_leaves}
+use Rattle.batches.proofs.Answers.{batch-numbered}
+use Rattle.batches.proofs.Records.{record-length}
 use Rattle.batches.proofs.batch.rebuild_batch.Goals as goal
 
-pub returns-in-Refused : goal.returns-in-Refused
-unfolding batch_told batch_leaves
-returns-in-Refused c =
-    let s = c.args in
-    let rs = batch_reasons s.code s.asked.0 s.batch.now s.output.now in
-    let e = sym (ap say_judged c.in-Refused.is) ∙ c.judge_batch-judged.ensures s.output.now refl in
-    record {
-      told = refused-told rs (pair_in s.code) c.in-Refused.r e (count_at s.batch.now 0);
-      left = refused-leaves rs (pair_in s.code) c.in-Refused.r e (rebuilt_record s.code s.asked.0 s.batch.now) s.output.now;
-    }
+pub returns-in_err-batch-clause-told : goal.returns-in_err-batch-clause-told
+unfolding batch_told
+returns-in_err-batch-clause-told c =
+    handed-on _ c.from_residual.result _ c.from_residual.ensures.1 (refused-told _ _ _ c.in_err-batch.ensures.answer _)
 
-pub column-helpers-requires : goal.column-helpers-requires
-column-helpers-requires c =
-    let s = c.args in
-    let e = good-is c.in_default.is (c.judge_batch-judged.ensures s.output.now refl) in
-    let q = batch-held s.code s.asked.0 s.batch.now s.output.now e in
-    (d-high s.code q.0, search rules, omega (arith, q.1))
+pub returns-in_err-batch-clause-left : goal.returns-in_err-batch-clause-left
+unfolding batch_leaves
+returns-in_err-batch-clause-left c = refused-leaves _ _ _ c.in_err-batch.ensures.answer _ _
 
-pub slice_bounds-helpers-end : goal.slice_bounds-helpers-end
-slice_bounds-helpers-end c =
+pub returns-clause-told : goal.returns-clause-told
+unfolding batch_told
+returns-clause-told c =
     let s = c.args in
-    let e = good-is c.in_default.is (c.judge_batch-judged.ensures s.output.now refl) in
-    let q = batch-held s.code s.asked.0 s.batch.now s.output.now e in
-    omega (arith, d-high s.code q.0)
+    let q = c.in_ok-batch.ensures.same in
+    ap done (cc (q.1))
+    ∙ done-told (batch_reasons s.code s.asked.0 s.batch.now s.output.now) (pair_in s.code) c.in_ok-batch.ensures.answer (count_at s.batch.now 0) (batch-numbered _ _ _ _)
 
-pub slice_bounds-plan-end : goal.slice_bounds-plan-end
-slice_bounds-plan-end c =
+pub returns-clause-left : goal.returns-clause-left
+unfolding batch_leaves
+returns-clause-left c =
     let s = c.args in
-    let e = good-is c.in_default.is (c.judge_batch-judged.ensures s.output.now refl) in
-    let q = batch-held s.code s.asked.0 s.batch.now s.output.now e in
-    let h = d-high s.code q.0 in
-    let k : length c.column-helpers.result ≡ 31 = search rules in sym (length-take-le s.code.d c.column-helpers.result (omega arith))
-
-pub write_stripe-requires : goal.write_stripe-requires
-write_stripe-requires c =
-    let s = c.args in
-    let e = good-is c.in_default.is (c.judge_batch-judged.ensures s.output.now refl) in
-    let q = batch-held s.code s.asked.0 s.batch.now s.output.now e in
-    (alpha-high s.code q.0, (d-high s.code q.0, q.1))
-
-pub returns : goal.returns
-unfolding batch_told batch_leaves
-returns c =
-    let s = c.args in
-    let e = good-is c.in_default.is (c.judge_batch-judged.ensures s.output.now refl) in
-    let q = batch-held s.code s.asked.0 s.batch.now s.output.now e in
-    let rs = batch_reasons s.code s.asked.0 s.batch.now s.output.now in
-    let w = rebuilt_record s.code s.asked.0 s.batch.now in
-    let hd = d-high s.code q.0 in
-    let ha = alpha-high s.code q.0 in record {
-      told = ap done c.number4-count.ensures ∙ done-told rs (pair_in s.code) e (count_at s.batch.now 0) (batch-numbered s.code s.asked.0 s.batch.now s.output.now);
-      left = c.write_stripe.ensures
-          ∙ ap₂ (λ (p : List (List ℕ)) (t : List ℕ). put_at s.output.now 0 (stripe_record (stripe_named s.batch.now 0) (applied p t (symbols_in s.code.d s.batch.now) (replicate (alpha s.code) 0))))
-          (c.plan-p.ensures ∙ ap (plan_of s.code s.asked.0) c.column-helpers.ensures) c.tables-t.ensures
-          ∙ ap (put_at s.output.now 0) (record_is s.code s.asked.0 hd ha s.batch.now (λ t h. omega (arith, c.type_inv.batch (10 * t + 9))))
-          ∙ put_all s.output.now w (record-length s.code s.asked.0 hd ha s.batch.now ∙ sym q.2)
-          ∙ done-leaves rs (pair_in s.code) e w s.output.now;
-    }
+    let b = c.in_ok-batch.batch in
+    let q = c.in_ok-batch.ensures.same in
+    let d = rw q.0 at (d-high b.code.code b.code.rules) in
+    let a = rw q.0 at (alpha-high b.code.code b.code.rules) in
+    (rw (q.0, q.1) at (c.write.ensures s.asked.0 c.plan.ensures))
+    ∙ put_all s.output.now (rebuilt_record s.code s.asked.0 s.batch.now) (record-length s.code s.asked.0 d a s.batch.now ∙ sym q.2)
+    ∙ done-leaves (batch_reasons s.code s.asked.0 s.batch.now s.output.now) (pair_in s.code) c.in_ok-batch.ensures.answer _ s.output.now

@@ -1,0 +1,54 @@
+-- `columns::Batch::write` meets its contract: the plan is applied to the symbols' column, and its record put.
+-- Assumes nothing.
+use Rattle.std.proofs.Common.{◌∙◌, ◌≤◌, ◌<◌, ℕ, get_or, rules, sym, ap, ap₂, List, replicate, arith}
+use lib.ListN.{length-replicate}
+use lib.Seq.{get_or-take, length-take-le, length_front}
+use Rattle.records.specs.Writing.{put_at}
+use Rattle.codes.proofs.Sizes.{d-high, alpha-high}
+use Rattle.shares.specs.Fields.{stripe_record}
+use Rattle.batches.specs.Batch.{symbol_in}
+use Rattle.batches.proofs.Fields.{list_at}
+use Rattle.batches.proofs.Records.{record_is, share_back, take-zeros}
+use Rattle.batches.proofs.columns.Batch.write.Goals as goal
+
+pub slice_bounds-share-end : goal.slice_bounds-share-end
+slice_bounds-share-end c = let b = c.args.self.now.code in omega (arith, c.alpha-a.ensures, alpha-high b.code b.rules)
+
+pub slice_bounds-rebuild_by-end-2 : goal.slice_bounds-rebuild_by-end-2
+slice_bounds-rebuild_by-end-2 c =
+    let b = c.args.self.now.code in
+    let a = c.alpha-a.result in
+    sym (length-take-le a (replicate 31 0) (omega (arith, length-replicate {A = ℕ} 31 0, c.alpha-a.ensures, alpha-high b.code b.rules)))
+
+pub slice_bounds-share-end-2 : goal.slice_bounds-share-end-2
+slice_bounds-share-end-2 c =
+    let b = c.args.self.now.code in
+    omega (arith, c.alpha-a.ensures, alpha-high b.code b.rules, length_front (replicate 31 0) c.rebuild_by.new.output c.alpha-a.result c.rebuild_by.auto.output, length-replicate {A = ℕ} 31 0)
+
+pub slice_bounds-stripe_record-end : goal.slice_bounds-stripe_record-end
+slice_bounds-stripe_record-end c =
+    let b = c.args.self.now.code in
+    let a = c.alpha-a.result in
+    let e = c.rebuild_by.new.output in
+    let l = length_front (replicate 31 0) e a c.rebuild_by.auto.output in
+    sym (length-take-le a _ (omega (arith, c.alpha-a.ensures, alpha-high b.code b.rules, l, length-replicate {A = ℕ} 31 0)))
+
+pub returns : goal.returns
+returns c f p =
+    let s = c.args in
+    let b = s.self.now in
+    let k = b.code.code in
+    let a = c.alpha-a.result in
+    let d = d-high k b.code.rules in
+    let m = alpha-high k b.code.rules in
+    let h : a ≤ 31 = omega (arith, c.alpha-a.ensures) in
+    let e = c.rebuild_by.new.output in
+    let z = take-zeros a 31 h ∙ ap (λ (n : ℕ). replicate n 0) c.alpha-a.ensures in
+    let y : (t : ℕ) → get_or c.column-symbols.result t 0 < 256 = λ t. search rules in
+    let small : (t : ℕ) → t < k.d → symbol_in b.bytes.now t < 256 = λ t l. omega (arith, y t, sym (get_or-take k.d c.column-symbols.result t 0 l) ∙ ap (λ (x : List ℕ). get_or x t 0) c.column-symbols.ensures ∙ list_at k.d (symbol_in b.bytes.now) t l) in
+    c.put.ensures.left
+    ∙ ap (put_at s.output.now s.at)
+    (c.stripe_record.ensures
+    ∙ ap₂ stripe_record c.stripe.ensures
+    (share_back a e (replicate 31 0) h (length-replicate {A = ℕ} 31 0) c.rebuild_by.auto.output ∙ c.rebuild_by.ensures ∙ cc (s.t.now.right))
+    ∙ record_is k f d m b.bytes.now small)
