@@ -1,5 +1,5 @@
 // One stripe rebuilt from a batch of d records.
-ghost use Rattle.std.specs.Prelude.{◌≡◌, length, IfOk};
+ghost use Rattle.std.specs.Prelude.{◌≡◌, length, IfOk, OnOk};
 ghost use Rattle.codes.specs.Told.{answered};
 ghost use Rattle.codes.specs.Judge.{pair_in, say_judged};
 ghost use Rattle.rebuilds.specs.Rebuild.{say_counted};
@@ -17,7 +17,8 @@ fn judge_batch<'a>(
     output: &[u8],
 ) -> Result<Batch<'a>, Refusal>
     ensures answer { say_judged result ≡ answered (batch_reasons code asked.0 bytes.now output.now) (pair_in code) 0 }
-    ensures same { IfOk result (λ b. (b.code.code ≡ code) × (b.bytes.now ≡ bytes.now) × (length output.now ≡ 34)) }
+    ensures same { IfOk result (λ b. (b.code.code ≡ code) × (b.bytes.now ≡ bytes.now)) }
+    ensures room { OnOk result (length output.now ≡ 34) }
 {
     let code = judge(code)?;
     if bytes.len() != usize::from(code.code.d) * 10 || output.len() != 34 {

@@ -1,5 +1,5 @@
 // A whole share file rebuilt from a batch for each stripe. All batches are judged before anything is written.
-ghost use Rattle.std.specs.Prelude.{◌≡◌, ◌*◌, ◌≤◌, ◌<◌, length, IfOk};
+ghost use Rattle.std.specs.Prelude.{◌≡◌, ◌*◌, ◌≤◌, ◌<◌, length, IfOk, OnOk};
 ghost use Rattle.records.specs.Writing.{put_at};
 ghost use Rattle.codes.specs.Told.{answered};
 ghost use Rattle.codes.specs.Judge.{pair_in, say_judged};
@@ -15,13 +15,14 @@ use records::numbers::number4;
 use records::writing::put;
 use shares::{code_record, judge_total, node_record, stripe_at};
 
-// The batches of a file, one for each stripe, one after the other.
+// The batches of a file, one for each stripe, one after the other; there is at least one.
 #[derive(Clone, Copy)]
 struct Batches<'a> {
     code: Accepted,
     total: u16,
     bytes: &'a [u8],
     ghost whole: { length bytes.now ≡ total * (code.code.d * 10) },
+    ghost some: { 1 ≤ total },
 }
 
 impl Batches<'_> {
@@ -60,8 +61,7 @@ impl Batches<'_> {
 
     // Puts the D records of all batches behind the first 45 bytes. A plan serves as long as the helpers stay the same.
     fn write(&self, asked: Node, output: &mut [u8])
-        requires some { 1 ≤ self.now.total }
-        requires room { length output.old ≡ stripe_at self.now.total }
+        requires { length output.old ≡ stripe_at self.now.total }
         ensures { output.new ≡ put_at output.old 45 (records_from self.now.code.code asked.0 self.now.bytes.now 0 self.now.total) }
     {
         let t = Products::new();
@@ -89,7 +89,8 @@ fn judge_whole<'a>(
     output: &[u8],
 ) -> Result<Batches<'a>, Refusal>
     ensures answer { say_judged result ≡ answered (whole_reasons code asked.0 stripes bytes.now output.now) (pair_in code) 0 }
-    ensures same { IfOk result (λ b. (b.code.code ≡ code) × (b.total ≡ stripes) × (b.bytes.now ≡ bytes.now) × (1 ≤ stripes) × (length output.now ≡ stripe_at stripes)) }
+    ensures same { IfOk result (λ b. (b.code.code ≡ code) × (b.total ≡ stripes) × (b.bytes.now ≡ bytes.now)) }
+    ensures room { OnOk result (length output.now ≡ stripe_at stripes) }
 {
     let code = judge_total(code, stripes)?;
     let total = stripes as u16;

@@ -33,6 +33,5 @@ returns-clause-answer c =
     let same = c.in_ok-code.ensures.same in
     whole-on _ _ _ _ _ c.in_ok-code.ensures.answer (cc) (cc (c.stripe_at.ensures.0)) (cc (c.in_ok-judge.ensures))
 
-pub returns-clause-same : goal.returns-clause-same
-returns-clause-same c =
-    (c.in_ok-code.ensures.same, refl, refl, (total-good c.args.code c.args.stripes c.in_ok-code.ensures.answer).0, cc (c.stripe_at.ensures.0))
+pub invariant_of-batches : goal.invariant_of-batches
+invariant_of-batches c = record { whole = cc; some = (total-good c.args.code c.args.stripes c.in_ok-code.ensures.answer).0 }

@@ -46,6 +46,6 @@ returns-clause-left c =
     let lv : length v ≡ 8 = search rules in
     let m : v ≡ node_record s.asked.0 s.stripes (count_at s.batches.now 0) = cc (q.1, q.2) in
     (rw (q.0, q.1, q.2) at c.write.ensures) ∙ ap (λ (x : List ℕ). put_at x 45 w) (c.put-2.ensures.left ∙ ap (λ (x : List ℕ). put_at x 37 v) c.put.ensures.left)
-    ∙ file-is s.output.now u v w lu lv (omega (arith, records-length s.code s.asked.0 d a s.batches.now 0 s.stripes, q.4))
+    ∙ file-is s.output.now u v w lu lv (omega (arith, records-length s.code s.asked.0 d a s.batches.now 0 s.stripes, c.in_ok-batches.ensures.room))
     ∙ ap₂ (λ (x y : List ℕ). x ++ (y ++ w)) c.code_record.ensures m
     ∙ done-leaves (whole_reasons s.code s.asked.0 s.stripes s.batches.now s.output.now) (pair_in s.code) c.in_ok-batches.ensures.answer _ s.output.now

@@ -41,5 +41,5 @@ loop-i-preserved c =
       planned = planned;
       long = c.write.auto.output ∙ l.invariant.long;
       put = rw c.stripe_at.ensures.0 at (c.write.ensures a q)
-          ∙ records-put k a (d-high k b.code.rules) (alpha-high k b.code.rules) b.bytes.now c.args.output.now l.output _ l.i (omega (arith, c.requires.room)) l.invariant.put (rw (e.code, e.bytes));
+          ∙ records-put k a (d-high k b.code.rules) (alpha-high k b.code.rules) b.bytes.now c.args.output.now l.output _ l.i (omega (arith, c.requires)) l.invariant.put (rw (e.code, e.bytes));
     }
