@@ -25,7 +25,7 @@ fn judge_batch<'a>(
         return Err(Refusal::Length);
     }
     let batch = Batch { code, bytes };
-    batch.judge(asked, false, batch.stripe() < 1024)?;
+    batch.judge(asked, false, batch.stripe(0) < 1024)?;
     Ok(batch)
 }
 
@@ -41,5 +41,5 @@ pub fn rebuild_batch(
 {
     let batch = judge_batch(code, asked, batch, output)?;
     batch.write(&batch.plan(asked), &Products::new(), output, 0);
-    Ok(batch.count())
+    Ok(batch.count(0))
 }

@@ -1,5 +1,5 @@
 // A batch: d records of 10 bytes, and what each of them says.
-ghost use Rattle.std.specs.Prelude.{◌≡◌, ◌*◌, ◌<◌, length, take};
+ghost use Rattle.std.specs.Prelude.{◌≡◌, ◌*◌, ◌≤◌, ◌<◌, length, take};
 ghost use Rattle.rebuilds.specs.Plan.{plan_of};
 ghost use Rattle.batches.specs.Batch.{list_of, field_of, count_at, stripe_named, helpers_in};
 
@@ -7,11 +7,15 @@ use codes::{Accepted, Node};
 use rebuilds::{Plan, plan};
 use records::numbers::{number2, number4};
 
+pub const KIND: usize = 0;
+
+pub const FAILED: usize = 1;
+
 pub const HELPER: usize = 2;
 
 pub const COUNT: usize = 3;
 
-pub const STRIPE: usize = 7;
+const STRIPE: usize = 7;
 
 pub const SYMBOL: usize = 9;
 
@@ -30,6 +34,30 @@ impl Batch<'_> {
         usize::from(self.code.code.d)
     }
 
+    // The byte at a place of the record r.
+    pub fn byte(&self, r: usize, at: usize) -> u8
+        requires { (r < self.now.code.code.d) × (at < 10) }
+        ensures { result ≡ field_of at self.now.bytes.now r }
+    {
+        self.bytes[10 * r + at]
+    }
+
+    // The count in the record r.
+    pub fn count(&self, r: usize) -> u32
+        requires { r ≤ self.now.code.code.d }
+        ensures { result ≡ count_at self.now.bytes.now r }
+    {
+        number4(self.bytes, 10 * r + COUNT)
+    }
+
+    // The stripe that the record r names.
+    pub fn stripe(&self, r: usize) -> u16
+        requires { r ≤ self.now.code.code.d }
+        ensures { result ≡ stripe_named self.now.bytes.now r }
+    {
+        number2(self.bytes, 10 * r + STRIPE)
+    }
+
     // The byte at a place of each record, then zeros.
     pub fn column(&self, at: usize) -> [u8; 31]
         requires { at < 10 }
@@ -37,23 +65,9 @@ impl Batch<'_> {
     {
         let mut column = [0; 31];
         for r in 0..self.d() {
-            column[r] = self.bytes[10 * r + at];
+            column[r] = self.byte(r, at);
         }
         column
-    }
-
-    // The first record's count.
-    pub fn count(&self) -> u32
-        ensures { result ≡ count_at self.now.bytes.now 0 }
-    {
-        number4(self.bytes, COUNT)
-    }
-
-    // The stripe that the first record names.
-    pub fn stripe(&self) -> u16
-        ensures { result ≡ stripe_named self.now.bytes.now 0 }
-    {
-        number2(self.bytes, STRIPE)
     }
 
     // The plan of a rebuild of the asked node by the batch's helpers.

@@ -6,10 +6,9 @@ ghost use Rattle.shares.specs.File.{below};
 ghost use Rattle.batches.specs.Batch.{help_kind, faults, noded, repeated};
 ghost use Rattle.batches.specs.Tests.{alike};
 
-use crate::columns::{Batch, COUNT, HELPER, STRIPE};
+use crate::columns::{Batch, FAILED, HELPER, KIND};
 use codes::{Node, Refusal};
 use records::kinds::HELP;
-use records::numbers::{number2, number4};
 use stripes::lists::{has, is_within, repeats};
 
 impl Batch<'_> {
@@ -17,7 +16,7 @@ impl Batch<'_> {
     fn are_helps(&self) -> bool
         ensures { result ≡ below self.now.code.code.d (λ r. eqb (help_kind self.now.bytes.now r) 0x48) }
     {
-        (0..self.d()).all(|r| self.bytes[10 * r] == HELP)
+        (0..self.d()).all(|r| self.byte(r, KIND) == HELP)
     }
 
     // Whether the failed node and the helper of each record are nodes of the code.
@@ -25,9 +24,8 @@ impl Batch<'_> {
         ensures { result ≡ below self.now.code.code.d (noded self.now.code.code self.now.bytes.now) }
     {
         let code = self.code.code;
-        (0..self.d()).all(|r| {
-            is_within(code, self.bytes[10 * r + 1]) && is_within(code, self.bytes[10 * r + 2])
-        })
+        (0..self.d()).all(|r| is_within(code, self.byte(r, FAILED))
+            && is_within(code, self.byte(r, HELPER)))
     }
 
     // Whether the asked node is among the helpers, or a helper stands there twice.
@@ -43,13 +41,11 @@ impl Batch<'_> {
     fn are_alike(&self, asked: Node) -> bool
         ensures { result ≡ below self.now.code.code.d (alike asked.0 self.now.bytes.now) }
     {
-        let count = self.count();
-        let stripe = self.stripe();
-        (0..self.d()).all(|r| {
-            self.bytes[10 * r + 1] == asked.0
-                && count == number4(self.bytes, 10 * r + COUNT)
-                && stripe == number2(self.bytes, 10 * r + STRIPE)
-        })
+        let count = self.count(0);
+        let stripe = self.stripe(0);
+        (0..self.d()).all(|r| self.byte(r, FAILED) == asked.0
+            && count == self.count(r)
+            && stripe == self.stripe(r))
     }
 
     // The first fault. other: the batch has another count than it must have; placed: it names the stripe that it must name.

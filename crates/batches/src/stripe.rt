@@ -20,6 +20,6 @@ impl Batch<'_> {
         let symbols = self.column(SYMBOL);
         let mut share = [0; 31];
         rebuild_by(plan, &t.bytes, &symbols[..d], &mut share[..a]);
-        put(output, at, &stripe_record(self.stripe(), &share[..a]));
+        put(output, at, &stripe_record(self.stripe(0), &share[..a]));
     }
 }

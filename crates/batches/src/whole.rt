@@ -54,7 +54,7 @@ impl Batches<'_> {
         let count = self.count();
         for i in 0..self.total {
             let batch = self.of(i);
-            batch.judge(asked, batch.count() != count, batch.stripe() == i)?;
+            batch.judge(asked, batch.count(0) != count, batch.stripe(0) == i)?;
         }
         Ok(())
     }
@@ -65,13 +65,14 @@ impl Batches<'_> {
         ensures { output.new ≡ put_at output.old 45 (records_from self.now.code.code asked.0 self.now.bytes.now 0 self.now.total) }
     {
         let t = Products::new();
+        let d = usize::from(self.code.code.d);
         let first = self.of(0);
         let mut helpers = first.column(HELPER);
         let mut plan = first.plan(asked);
         for i in 0..self.total {
             let batch = self.of(i);
             let next = batch.column(HELPER);
-            if next != helpers {
+            if next[..d] != helpers[..d] {
                 plan = batch.plan(asked);
                 helpers = next;
             }

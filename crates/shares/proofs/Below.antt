@@ -3,7 +3,7 @@
 --   below-stop                 the test fails at one of the numbers
 --   below_each, below_at       the test at each of the numbers, and back
 --   below-fewer                fewer numbers
---   below-from                 `all` over the numbers from a on, where the test holds at those below a
+--   below-from                 `all` over the numbers from a on, where the test holds at those below a;   below-all    over the numbers below n
 -- Assumes nothing.
 use mathlib.Core.Path.{◌≡◌, ◌∙◌, refl, sym, ap}
 use mathlib.Core.Bool.{Bool, true, false, ◌&&◌, and-false}
@@ -69,3 +69,7 @@ below-from p q a n e same =
     by_cases (dec_le a n)
     (λ l. let m : a + (n - a) ≡ n = omega arith in run p q a (n - a) e same ∙ ap (λ (k : ℕ). below k p) m)
     (λ l. let z : n - a ≡ 0 = omega arith in rw z (sym (below-fewer n a p (omega arith) e)))
+
+-- `all` over the numbers below n
+pub below-all : (p : ℕ → Bool) (n : ℕ) → list_all p (range_with_len 0 (n - 0)) ≡ below n p
+below-all p n = below-from p p 0 n (below_none p) (λ j l. refl)

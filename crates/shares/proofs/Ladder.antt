@@ -21,7 +21,7 @@ use Rattle.stripes.specs.Lists.{within}
 use Rattle.shares.specs.Fields.{code_in, node_in, stripes_in, count_in, stripe_at}
 use Rattle.shares.specs.File.{below, stripe_good, totalled, node_reasons, file_reasons, Says}
 use Rattle.shares.specs.declared.Filed.{Filed}
-use Rattle.std.specs.Prelude.{Result, Ok, Err}
+use Rattle.std.specs.Prelude.{Result, Err}
 use Rattle.shares.proofs.Answers.{says-refused, says-more}
 
 module _ (s : List ℕ) where

@@ -4,9 +4,9 @@
 --   bytes-are       the bytes of a list of symbols
 --   node-is, stripe-is, help-is, code_is     the records' bytes
 -- Assumes nothing.
-use mathlib.Core.Path.{◌≡◌, ◌∙◌, refl, sym, ap, ap₂}
+use mathlib.Core.Path.{◌≡◌, ◌∙◌, sym, ap, ap₂}
 use mathlib.Core.List.{List, [], ◌∷◌, ◌++◌, append_assoc, map}
-use Prim.Native.Nat.{ℕ, ◌+◌, ◌-◌, ◌<◌, ◌≤◌}
+use Prim.Native.Nat.{ℕ, ◌+◌, ◌<◌, ◌≤◌}
 use native.Mathlib.Omega.{arith}
 use lib.ListN.{length, get_or, take, drop, replicate, length-append, length-map, get_or-map}
 use lib.Seq.{drop-drop, drop-length, ext_get_or}

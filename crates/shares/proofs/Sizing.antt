@@ -5,9 +5,8 @@
 -- Assumes nothing.
 use mathlib.Core.Path.{◌≡◌, ◌∙◌, sym, ap}
 use mathlib.Core.Bool.{Bool, true, false, not, ◌||◌, or-true, or-false}
-use mathlib.Core.List.{[], ◌∷◌}
 use native.Mathlib.Omega.{arith}
-use Rattle.codes.specs.Told.{◌when◌, refused, answered}
+use Rattle.codes.specs.Told.{refused, answered}
 use Rattle.codes.specs.Judge.{known, sized, pair_in, judge_reasons, judged}
 use Rattle.codes.specs.declared.Code.{Code}
 use Rattle.codes.specs.declared.Refusal.TheVariants.{Kind, Size}

@@ -1,6 +1,6 @@
 -- `whole::judge_whole` meets its contract: the code and the total, the two lengths, then the batches in turn.
 -- Assumes nothing.
-use Rattle.std.proofs.Common.{refl, arith}
+use Rattle.std.proofs.Common.{arith}
 use mathlib.Core.Logic.{inl, inr}
 use Rattle.codes.proofs.Told.{handed-on}
 use Rattle.batches.proofs.Answers.{total-good, whole-front, whole-length, whole-on}

@@ -1,6 +1,5 @@
 -- `judging::judge_file` meets its contract: the C record, then its code, then what follows.
 -- Assumes nothing.
-use mathlib.Core.Path.{sym}
 use borrow.Author.Tests.{not-true, not-false}
 use Rattle.std.proofs.lemmas.Result.{err_from_is_err_and}
 use Rattle.shares.proofs.Stripes.{err-read}

@@ -3,7 +3,7 @@
 use Rattle.std.proofs.Common.{ℕ, Bool, ◌∙◌, ◌-◌, refl, rules, tests}
 use Rattle.std.proofs.lemmas.Iterator.{YieldsList-from_range}
 use Rattle.std.proofs.lemmas.Iterator.Search.{all_from_yields_List}
-use Rattle.shares.proofs.Below.{below_none, below-from}
+use Rattle.shares.proofs.Below.{below-all}
 use Rattle.batches.specs.Tests.{alike}
 use Rattle.batches.proofs.columns.Batch.are_alike.Goals as goal
 
@@ -13,4 +13,4 @@ returns c =
     let d = b.code.code.d in
     let p : ℕ → Bool = alike c.args.asked.0 b.bytes.now in
     all_from_yields_List p _ _ _ c.all.ensures.ran (YieldsList-from_range 0 d (d - 0) (cc) refl) (λ x b q k. search (rules, tests))
-    ∙ below-from p p 0 d (below_none p) (λ j l. refl)
+    ∙ below-all p d

@@ -11,7 +11,7 @@ loop-r-preserved c =
     let lt : l.r < length l.column = omega (arith, l.invariant.long, d-high c.args.self.now.code.code c.args.self.now.code.rules) in
     record {
       long = rw length-set l.invariant.long;
-      each = below_more _ _ (λ k h. let ne : k ≡ l.r → ⊥ = λ e. omega arith in rw get_or-set_other (l.invariant.each k h)) (rw get_or-set_same);
+      each = below_more _ _ (λ k h. let ne : k ≡ l.r → ⊥ = λ e. omega arith in rw get_or-set_other (l.invariant.each k h)) (rw get_or-set_same c.byte.ensures);
     }
 
 pub returns : goal.returns

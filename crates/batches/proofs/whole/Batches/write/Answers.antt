@@ -32,9 +32,12 @@ loop-i-preserved c =
     let next = c.column-next.result in
     let e = c.of-batch.ensures in
     let planned : j.plan ≡ plan_of k a (take k.d j.helpers) = elim j.branch [ then-ne w ↦ cc | else-ne w ↦ cc ] in
-    let now : j.helpers ≡ next = elim j.branch [
-      | then-ne w ↦ w.helpers-is
-      | else-ne w ↦ w.helpers-is ∙ sym ((bytes_eq-Decides next l.helpers).0 (not-false _ (sym c.ne.ensures ∙ w.if-ne.false)))
+    let n = c.from-d.result in
+    let now : take k.d j.helpers ≡ take k.d next = elim j.branch [
+      | then-ne w ↦ ap (take k.d) w.helpers-is
+      | else-ne w ↦
+          let same = (bytes_eq-Decides (take n next) (take n l.helpers)).0 (not-false _ (sym c.ne.ensures ∙ w.if-ne.false)) in
+          ap (take k.d) w.helpers-is ∙ sym (rw c.from-d.ensures at same)
     ] in
     let q : j.plan ≡ plan_of c.of-batch.result.code.code a (helpers_in c.of-batch.result.code.code.d c.of-batch.result.bytes.now) = cc in
     record {
