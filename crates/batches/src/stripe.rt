@@ -13,7 +13,8 @@ use shares::stripe_record;
 impl Batch<'_> {
     // Puts the D record at a place of the output, by a plan that the batch's helpers give for an asked node.
     pub fn write(&self, plan: &Plan, t: &Products, output: &mut [u8], at: usize)
-        ensures { (a : ℕ) → plan.now ≡ plan_of self.now.code.code a (helpers_in self.now.code.code.d self.now.bytes.now) → output.new ≡ put_at output.old at (rebuilt_record self.now.code.code a self.now.bytes.now) }
+        ensures { (a : ℕ) → plan.now ≡ plan_of self.now.code.code a (helpers_in self.now.code.code.d self.now.bytes.now)
+            → output.new ≡ put_at output.old at (rebuilt_record self.now.code.code a self.now.bytes.now) }
     {
         let d = self.d();
         let a = self.code.code.alpha();

@@ -23,7 +23,8 @@ slice_bounds-rebuild_by-end-2 c =
 pub slice_bounds-share-end-2 : goal.slice_bounds-share-end-2
 slice_bounds-share-end-2 c =
     let b = c.args.self.now.code in
-    omega (arith, c.alpha-a.ensures, alpha-high b.code b.rules, length_front (replicate 31 0) c.rebuild_by.new.output c.alpha-a.result c.rebuild_by.auto.output, length-replicate {A = ℕ} 31 0)
+    let l = length_front (replicate 31 0) c.rebuild_by.new.output c.alpha-a.result c.rebuild_by.auto.output in
+    omega (arith, c.alpha-a.ensures, alpha-high b.code b.rules, l, length-replicate {A = ℕ} 31 0)
 
 pub slice_bounds-stripe_record-end : goal.slice_bounds-stripe_record-end
 slice_bounds-stripe_record-end c =
@@ -45,7 +46,9 @@ returns c f p =
     let e = c.rebuild_by.new.output in
     let z = take-zeros a 31 h ∙ ap (λ (n : ℕ). replicate n 0) c.alpha-a.ensures in
     let y : (t : ℕ) → get_or c.column-symbols.result t 0 < 256 = λ t. search rules in
-    let small : (t : ℕ) → t < k.d → symbol_in b.bytes.now t < 256 = λ t l. omega (arith, y t, sym (get_or-take k.d c.column-symbols.result t 0 l) ∙ ap (λ (x : List ℕ). get_or x t 0) c.column-symbols.ensures ∙ list_at k.d (symbol_in b.bytes.now) t l) in
+    let small : (t : ℕ) → t < k.d → symbol_in b.bytes.now t < 256 = λ t l.
+    let e = sym (get_or-take k.d c.column-symbols.result t 0 l) ∙ ap (λ (x : List ℕ). get_or x t 0) c.column-symbols.ensures in
+    omega (arith, y t, e ∙ list_at k.d (symbol_in b.bytes.now) t l) in
     c.put.ensures.left
     ∙ ap (put_at s.output.now s.at)
     (c.stripe_record.ensures

@@ -10,4 +10,5 @@ use Rattle.batches.proofs.whole.Batches.judge.Given as goal
 abbrev pub invariant-loop-i : goal.invariant-loop-i
 invariant-loop-i l =
     let c = l.self.code.code in
-    answered (faults_from c l.asked.0 l.self.bytes.now 0 l.self.total) (pair_in c) 0 ≡ answered (faults_from c l.asked.0 l.self.bytes.now l.i (l.self.total - l.i)) (pair_in c) 0
+    answered (faults_from c l.asked.0 l.self.bytes.now 0 l.self.total) (pair_in c) 0
+    ≡ answered (faults_from c l.asked.0 l.self.bytes.now l.i (l.self.total - l.i)) (pair_in c) 0

@@ -15,11 +15,12 @@ use Rattle.batches.proofs.whole.Batches.write.Goals.{then-ne, else-ne}
 pub loop-i-init : goal.loop-i-init
 loop-i-init c =
     let b = c.args.self.now in
+    let k = b.code.code in
     let o = c.args.output.now in
     record {
       planned = cc;
       long = refl;
-      put = sym (ap (put_at o 45) (records-none b.code.code c.args.asked.0 (d-high b.code.code b.code.rules) (alpha-high b.code.code b.code.rules) b.bytes.now 0) ∙ put-own o 45 0);
+      put = sym (ap (put_at o 45) (records-none k c.args.asked.0 (d-high k b.code.rules) (alpha-high k b.code.rules) b.bytes.now 0) ∙ put-own o 45 0);
     }
 
 pub loop-i-preserved : goal.loop-i-preserved
@@ -44,5 +45,6 @@ loop-i-preserved c =
       planned = planned;
       long = c.write.auto.output ∙ l.invariant.long;
       put = rw c.stripe_at.ensures.0 at (c.write.ensures a q)
-          ∙ records-put k a (d-high k b.code.rules) (alpha-high k b.code.rules) b.bytes.now c.args.output.now l.output _ l.i (omega (arith, c.requires)) l.invariant.put (rw (e.code, e.bytes));
+          ∙ records-put k a (d-high k b.code.rules) (alpha-high k b.code.rules) b.bytes.now c.args.output.now l.output _ l.i
+          (omega (arith, c.requires)) l.invariant.put (rw (e.code, e.bytes));
     }
