@@ -1,18 +1,18 @@
 -- A run of slip records, record by record.
 --   none, more          the records of an empty run, and of one that is not
 --   stop-.., on-..      the first record ends the reading, or does not
---   Going               what holds while a run is taken, at the place at, with so many bytes written; it starts, goes on, stops and is done
+--   Going               what holds while a run is taken, with the part q of it left and so many bytes written; it starts, goes on, stops and is done
 -- Assumes nothing.
 use mathlib.Core.Path.{◌≡◌, ◌∙◌, refl, sym, ap, ap₂}
 use mathlib.Core.Bool.{true, false}
 use mathlib.Core.List.{List, [], ◌∷◌, ◌++◌, append_assoc, append-nil}
-use mathlib.Core.Logic.{by_cases}
-use Prim.Native.Nat.{ℕ, zero, suc, ◌+◌, ◌*◌, ◌-◌, ◌<◌, ◌≤◌}
-use native.Mathlib.Decide.{dec_lt}
+use Prim.Native.Nat.{ℕ, zero, suc, ◌+◌, ◌*◌, ◌<◌, ◌≤◌}
 use native.Mathlib.Omega.{arith}
 use borrow.Author.Tests.{eq-eqb, ne_eqb}
-use lib.ListN.{length, take, drop, length-drop, take-append-drop, drop_of_length-le}
-use lib.Seq.{take_all, drop-drop, length-take-le}
+use lib.ListN.{length, take, drop, length-append, length-drop, take-append-drop}
+use lib.Seq.{drop-drop, length-take-le, take-append_seam, drop-append_seam}
+use Rattle.std.specs.Prelude.{min}
+use Rattle.std.proofs.lemmas.List.{take_min, drop_min}
 use Rattle.records.specs.Writing.{put_at}
 use Rattle.records.proofs.Runs.{length-put, take_put, drop-put}
 use Rattle.streams.specs.Stream.{records_in, records, Way, judged_before, answer_of, answers_to, file_after, has_ended, begun, laid, Walks}
@@ -76,19 +76,16 @@ module _ (w : Way) (s r : List ℕ) (rs : List (List ℕ)) where
 abbrev J : Way
 J = judged_before
 
-pub record Going (s₀ p o₀ s o : List ℕ) (at written : ℕ) : Type 0 where
-  pub place : at ≤ length p
-  pub room : written + begun (length p - at) * 2 ≤ length o₀
+pub record Going (s₀ p o₀ s o q : List ℕ) (written : ℕ) : Type 0 where
+  pub room : written + begun (length q) * 2 ≤ length o₀
   pub long : length o ≡ length o₀
-  pub file-long : length s ≡ length s₀
-  pub answers : take written o ++ answers_to J s (records (drop at p)) ≡ answers_to J s₀ (records p)
+  pub answers : take written o ++ answers_to J s (records q) ≡ answers_to J s₀ (records p)
   pub behind : drop written o ≡ drop written o₀
-  pub file : file_after J s (records (drop at p)) ≡ file_after J s₀ (records p)
-  pub ended : has_ended J s (records (drop at p)) ≡ has_ended J s₀ (records p)
+  pub file : file_after J s (records q) ≡ file_after J s₀ (records p)
+  pub ended : has_ended J s (records q) ≡ has_ended J s₀ (records p)
 
-pub going_start : (s p o : List ℕ) → begun (length p) * 2 ≤ length o → Going s p o s o 0 0
-going_start s p o h =
-    record { place = omega arith; room = omega arith; long = refl; file-long = refl; answers = refl; behind = refl; file = refl; ended = refl }
+pub going_start : (s p o : List ℕ) → begun (length p) * 2 ≤ length o → Going s p o s o p 0
+going_start s p o h = record { room = omega arith; long = refl; answers = refl; behind = refl; file = refl; ended = refl }
 
 -- the bytes written, and what is behind them
 finished : (o o₀ A : List ℕ) (written : ℕ) → written ≤ length o → take written o ≡ A → drop written o ≡ drop written o₀ → (written ≡ length A) × (o ≡ laid A o₀)
@@ -96,11 +93,11 @@ finished o o₀ A written h e b =
     let l : written ≡ length A = sym (length-take-le written o h) ∙ ap length e in
     (l, sym (take-append-drop written o) ∙ ap₂ (λ (x y : List ℕ). x ++ y) e (b ∙ ap (λ (n : ℕ). drop n o₀) l))
 
-module _ (s₀ p o₀ s o : List ℕ) (at written : ℕ) (g : Going s₀ p o₀ s o at written) where
-  pub going_done : length p ≤ at → Walks s₀ p o₀ written false s o
+module _ (s₀ p o₀ s o q : List ℕ) (written : ℕ) (g : Going s₀ p o₀ s o q written) where
+  pub going_done : length q ≡ 0 → Walks s₀ p o₀ written false s o
   unfolding answers_to file_after has_ended
   going_done h =
-      let z : records (drop at p) ≡ [] = none (drop at p) (omega (arith, length-drop at p)) in
+      let z : records q ≡ [] = none q (omega (arith, h)) in
       let f = finished o o₀ (answers_to J s₀ (records p)) written (omega (arith, g.room, g.long))
       (sym (append-nil (take written o)) ∙ ap (λ (rs : List (List ℕ)). take written o ++ answers_to J s rs) (sym z) ∙ g.answers) g.behind in
       record {
@@ -110,31 +107,22 @@ module _ (s₀ p o₀ s o : List ℕ) (at written : ℕ) (g : Going s₀ p o₀ 
         answers = f.1;
       }
 
-  module _ (h : at < length p) (end : ℕ) (e₁ : at < end) (e₂ : end ≤ at + 10) (e₃ : end ≤ length p) (e₄ : end < at + 10 → end ≡ length p) where
-    abbrev R : List ℕ
-    R = take (end - at) (drop at p)
+  -- the first record r of what is left, and what is left after it
+  module _ (r q' : List ℕ) (joined : q ≡ r ++ q') (size : ℕ) (ten : size ≡ 10) (cut : length r ≡ min size (length q)) (some : 0 < length q) where
+    short : length r ≡ min 10 (length q)
+    short = cut ∙ ap (λ (n : ℕ). min n (length q)) ten
 
-    piece : R ≡ take 10 (drop at p)
-    piece =
-        by_cases (dec_lt end (at + 10))
-        (λ l. let q = e₄ l in take_all (end - at) (drop at p) (omega (arith, length-drop at p)) ∙ sym (take_all 10 (drop at p) (omega (arith, length-drop at p))))
-        (λ l. let q : end - at ≡ 10 = omega arith in ap (λ (n : ℕ). take n (drop at p)) q)
+    fits : written + 2 ≤ length o
+    fits = omega (arith, g.room, g.long)
 
-    rest : drop 10 (drop at p) ≡ drop end p
-    rest =
-        by_cases (dec_lt end (at + 10))
-        (λ l. let q = e₄ l in drop_of_length-le (drop at p) {i = 10} (omega (arith, length-drop at p)) ∙ sym (drop_of_length-le p {i = end} (omega arith)))
-        (λ l. let q : at + 10 ≡ end = omega arith in drop-drop 10 at p ∙ ap (λ (n : ℕ). drop n p) q)
-
-    first : records (drop at p) ≡ R ∷ records (drop end p)
+    first : records q ≡ r ∷ records q'
     first =
-        more (drop at p) (omega (arith, length-drop at p))
-        ∙ ap₂ (λ (r : List ℕ) (q : List ℕ). r ∷ records q) (sym piece) rest
+        more q some
+        ∙ ap₂ (λ (x : List ℕ) (y : List ℕ). x ∷ records y)
+        (sym (take_min 10 q) ∙ ap (λ (n : ℕ). take n q) (sym short) ∙ ap (take (length r)) joined ∙ take-append_seam r q')
+        (sym (drop_min 10 q) ∙ ap (λ (n : ℕ). drop n q) (sym short) ∙ ap (drop (length r)) joined ∙ drop-append_seam r q')
 
-    module _ (n : ℕ) (s' o' : List ℕ) (en : n ≡ answer_of J s R) (es : s' ≡ J.leaves s R) (eo : o' ≡ put_at o written (0x45 ∷ n ∷ [])) where
-      fits : written + 2 ≤ length o
-      fits = omega (arith, g.room, g.long)
-
+    module _ (n : ℕ) (s' o' : List ℕ) (en : n ≡ answer_of J s r) (es : s' ≡ J.leaves s r) (eo : o' ≡ put_at o written (0x45 ∷ n ∷ [])) where
       head : take (written + 2) o' ≡ take written o ++ (0x45 ∷ n ∷ [])
       head = ap (take (written + 2)) eo ∙ take_put o written (0x45 ∷ n ∷ []) fits
 
@@ -148,37 +136,35 @@ module _ (s₀ p o₀ s o : List ℕ) (at written : ℕ) (g : Going s₀ p o₀ 
 
       pub going-stop : n ≡ 1 → Walks s₀ p o₀ (written + 2) true s' o'
       going-stop one =
-          let q : answer_of J s R ≡ 1 = sym en ∙ one in
+          let k : answer_of J s r ≡ 1 = sym en ∙ one in
           let f = finished o' o₀ (answers_to J s₀ (records p)) (written + 2) (omega (arith, fits, as_long))
-          (head ∙ ap (λ (k : ℕ). take written o ++ (0x45 ∷ k ∷ [])) en
-          ∙ ap (λ (k : List ℕ). take written o ++ k) (sym (stop-answers J s R (records (drop end p)) q))
+          (head ∙ ap (λ (m : ℕ). take written o ++ (0x45 ∷ m ∷ [])) en
+          ∙ ap (λ (l : List ℕ). take written o ++ l) (sym (stop-answers J s r (records q') k))
           ∙ ap (λ (rs : List (List ℕ)). take written o ++ answers_to J s rs) (sym first) ∙ g.answers) tail in
           record {
             bytes = f.0;
-            end = sym (stop-ended J s R (records (drop end p)) q) ∙ ap (has_ended J s) (sym first) ∙ g.ended;
-            file = es ∙ sym (stop-file J s R (records (drop end p)) q) ∙ ap (file_after J s) (sym first) ∙ g.file;
+            end = sym (stop-ended J s r (records q') k) ∙ ap (has_ended J s) (sym first) ∙ g.ended;
+            file = es ∙ sym (stop-file J s r (records q') k) ∙ ap (file_after J s) (sym first) ∙ g.file;
             answers = f.1;
           }
 
-      pub going_on : (n ≡ 1 → ⊥) → length s' ≡ length s₀ → Going s₀ p o₀ s' o' end (written + 2)
-      going_on nn long =
-          let q : answer_of J s R ≡ 1 → ⊥ = λ z. nn (en ∙ z) in
+      pub going_on : (n ≡ 1 → ⊥) → Going s₀ p o₀ s' o' q' (written + 2)
+      going_on nn =
+          let k : answer_of J s r ≡ 1 → ⊥ = λ z. nn (en ∙ z) in
           record {
-            place = e₃;
-            room = by_cases (dec_lt end (at + 10)) (λ l. let z = e₄ l in omega (arith, g.room)) (λ l. omega (arith, g.room));
+            room = omega (arith, g.room, ap length joined, length-append r q', short, some);
             long = as_long ∙ g.long;
-            file-long = long;
             answers =
-                ap (λ (k : List ℕ). k ++ answers_to J s' (records (drop end p))) head
-                ∙ append_assoc (take written o) (0x45 ∷ n ∷ []) (answers_to J s' (records (drop end p)))
-                ∙ ap₂ (λ (k : ℕ) (t : List ℕ). take written o ++ (0x45 ∷ k ∷ answers_to J t (records (drop end p)))) en es
-                ∙ ap (λ (k : List ℕ). take written o ++ k) (sym (on-answers J s R (records (drop end p)) q))
+                ap (λ (l : List ℕ). l ++ answers_to J s' (records q')) head
+                ∙ append_assoc (take written o) (0x45 ∷ n ∷ []) (answers_to J s' (records q'))
+                ∙ ap₂ (λ (m : ℕ) (t : List ℕ). take written o ++ (0x45 ∷ m ∷ answers_to J t (records q'))) en es
+                ∙ ap (λ (l : List ℕ). take written o ++ l) (sym (on-answers J s r (records q') k))
                 ∙ ap (λ (rs : List (List ℕ)). take written o ++ answers_to J s rs) (sym first) ∙ g.answers;
             behind = tail;
             file =
-                ap (λ (t : List ℕ). file_after J t (records (drop end p))) es
-                ∙ sym (on-file J s R (records (drop end p)) q) ∙ ap (file_after J s) (sym first) ∙ g.file;
+                ap (λ (t : List ℕ). file_after J t (records q')) es
+                ∙ sym (on-file J s r (records q') k) ∙ ap (file_after J s) (sym first) ∙ g.file;
             ended =
-                ap (λ (t : List ℕ). has_ended J t (records (drop end p))) es
-                ∙ sym (on-ended J s R (records (drop end p)) q) ∙ ap (has_ended J s) (sym first) ∙ g.ended;
+                ap (λ (t : List ℕ). has_ended J t (records q')) es
+                ∙ sym (on-ended J s r (records q') k) ∙ ap (has_ended J s) (sym first) ∙ g.ended;
           }

@@ -6,7 +6,8 @@
 mod heads; // heads.rt: how long a share file is, and whether it is refused
 mod runs; // runs.rt: a run of slip records, taken one after the other
 mod slips; // slips.rt: one slip taken in a file, which is judged first
-mod taking; // taking.rt: one slip, with what a run has in common made once
+mod station; // station.rt: one slip taken in a file that was judged before
+mod weights; // weights.rt: a change times a power of the node's point
 
 pub use heads::{file_length, refusal_of};
 pub use runs::{Walked, take_run};

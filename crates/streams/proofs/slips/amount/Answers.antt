@@ -1,7 +1,0 @@
--- `slips::amount` meets its contract: the field's product and power, read as symbols.
--- Assumes nothing.
-use Rattle.shares.proofs.Changes.{amount-is}
-use Rattle.shares.proofs.slips.amount.Goals as goal
-
-pub returns : goal.returns
-returns c = amount-is _ _ _ _ _ _ c.of.ensures c.power.ensures c.times-p.ensures
