@@ -4,99 +4,64 @@
 // writing, which no contract can speak of: each function is proved safe, and that it ends. Where writing fails the program ends.
 #![tactic(auto)]
 
-ghost use Rattle.std.specs.Prelude.{◌≡◌, ◌≤◌, length};
-ghost use Rattle.io.specs.Counts.{IsPrefixLen};
+ghost use Rattle.std.specs.Prelude.{◌≤◌, length};
 
 use records::kinds::ANSWER;
+use std::io;
+use std::io::{Read, Write};
 
-// The numbers of standard input and standard output.
-const STDIN: i32 = 0;
-
-const STDOUT: i32 = 1;
-
-// What comes after a chunk of slips.
-#[derive(Clone, Copy)]
-enum Next {
-    More,
-    Last,
-    Broken,
+// Reads until the buffer is full or the input ends, and answers how many bytes were read. A read that fails ends the input.
+fn fill(input: &mut impl Read, buffer: &mut [u8]) -> usize
+    ensures { result ≤ length buffer.old }
+{
+    let mut done = 0;
+    while done < buffer.len() {
+        let n = input.read(&mut buffer[done..]).unwrap_or(0);
+        if n == 0 {
+            break;
+        }
+        done += n;
+    }
+    done
 }
 
-// Reads, takes and answers one chunk of slips: 4,096 records.
-fn turn(file: &mut [u8]) -> Next {
+// Reads, takes and answers one chunk of slips: 4,096 records. Says whether more may follow.
+fn turn(input: &mut impl Read, output: &mut impl Write, file: &mut [u8]) -> io::Result<bool> {
     let mut run = [0u8; 40960];
     let mut answers = [0u8; 8192];
-    let n = io::read_full(STDIN, &mut run);
+    let n = fill(input, &mut run);
     let walked = streams::take_run(file, &run[..n], &mut answers);
-    let m = walked.written;
-    if !io::write_all(STDOUT, &answers[..m]) {
-        return Next::Broken;
-    }
-    if walked.ended {
-        return Next::Last;
-    }
-    if n < 40960 {
-        return Next::Last;
-    }
-    Next::More
+    output.write_all(&answers[..walked.written])?;
+    Ok(!walked.ended && n == run.len())
 }
 
 // Takes chunk after chunk, then writes the file. A proved loop has to end, and nothing says that the input does: the turns are
-// counted down from a number that no input uses up.
-fn walk(file: &mut [u8]) {
-    let mut turns = u64::MAX;
-    while turns > 0 {
-        let next = turn(file);
-        match next {
-            Next::Broken => {
-                return;
-            }
-            Next::Last => {
-                io::write_all(STDOUT, file);
-                return;
-            }
-            Next::More => {}
+// counted, and no input uses up their number.
+fn walk(input: &mut impl Read, output: &mut impl Write, file: &mut [u8]) -> io::Result<()> {
+    for _ in 0..u64::MAX {
+        if !turn(input, output, file)? {
+            return output.write_all(file);
         }
-        turns -= 1;
     }
+    Ok(())
 }
 
-// A refused share file is answered with that one record and nothing else.
-fn judged(file: &mut [u8]) {
-    let refusal = streams::refusal_of(file);
-    if refusal > 0 {
-        io::write_all(STDOUT, &[ANSWER, refusal]);
-        return;
-    }
-    walk(file);
-}
-
-// Reads until the place `to` is reached or the input ends, and answers the place reached.
-fn fill(file: &mut [u8], from: usize, to: usize) -> usize
-    requires { (from ≤ to) × (to ≤ length file.old) }
-    ensures { (result ≤ to) × IsPrefixLen result file.new }
-{
-    from + io::read_full(STDIN, &mut file[from..to])
-}
-
-// Reads the share file: 45 bytes, then what its N record says.
-fn serve(file: &mut [u8])
+// Reads the share file: 45 bytes, then what its N record says. A refused one is answered with that one record and nothing else.
+fn serve(input: &mut impl Read, output: &mut impl Write, file: &mut [u8]) -> io::Result<()>
     requires { 34861 ≤ length file.old }
 {
-    let got = fill(file, 0, 45);
-    let whole = streams::file_length(&file[..got]);
-    let all = fill(file, got, whole);
-    judged(&mut file[..all]);
+    let head = fill(input, &mut file[..45]);
+    let whole = streams::file_length(&file[..head]);
+    let all = head + fill(input, &mut file[head..whole]);
+    let file = &mut file[..all];
+    match streams::refusal_of(file) {
+        0 => walk(input, output, file),
+        refusal => output.write_all(&[ANSWER, refusal]),
+    }
 }
 
-// Room for the longest share file.
-fn room() -> [u8; 34861]
-    ensures { 34861 ≡ length result }
-{
-    [0; 34861]
-}
-
-fn main() {
-    let mut file = room();
-    serve(&mut file);
+// There is room for the longest share file.
+fn main(rt: HostRuntime) {
+    let mut file = [0u8; 34861];
+    let _ = serve(&mut rt.reader(), &mut io::writer(&rt), &mut file);
 }
