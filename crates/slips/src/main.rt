@@ -63,5 +63,5 @@ fn serve(input: &mut impl Read, output: &mut impl Write, file: &mut [u8]) -> io:
 // There is room for the longest share file.
 fn main(rt: HostRuntime) {
     let mut file = [0u8; 34861];
-    let _ = serve(&mut rt.reader(), &mut io::writer(&rt), &mut file);
+    let _ = serve(&mut rt.stdin(), &mut rt.stdout(), &mut file);
 }
