@@ -1,4 +1,4 @@
--- What was read stands in the buffer.
+-- `fill` is safe and ends. The loop's invariant: what was read stands in the buffer.
 -- Assumes nothing.
 use Rattle.std.proofs.Common.{length, ◌-◌, ◌≤◌}
 use Rattle.slips.proofs.fill.Given as goal

@@ -1,4 +1,4 @@
--- The head is no longer than 45 bytes, and so no longer than the file.
+-- `serve` is safe: the head is no longer than 45 bytes, and so no longer than the file.
 -- Assumes nothing.
 use native.Mathlib.Omega.{arith}
 use Rattle.std.proofs.lemmas.List.{length-take-le}

@@ -1,4 +1,4 @@
--- 45 where the stripe total is not there or outside its rule, and else what it says.
+-- `heads::file_length` meets its contract: 45 where the stripe total is not there or outside its rule, and else what it says.
 -- Assumes nothing.
 use mathlib.Core.Path.{◌∙◌, sym, ap}
 use native.Mathlib.Omega.{arith}

@@ -1,4 +1,4 @@
--- The number of what the judge of share files says.
+-- `heads::refusal_of` meets its contract: the number of what the judge of share files says.
 -- Assumes nothing.
 use mathlib.Core.Path.{◌∙◌, ap}
 use Rattle.codes.specs.Told.{Told}

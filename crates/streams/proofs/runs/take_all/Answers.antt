@@ -1,4 +1,5 @@
--- The answers of the records passed are written, the rest is as it was, and the station is still the file's.
+-- `runs::take_all` meets its contract. The loop's invariant: the answers of the records passed are written, the rest is as it was (Going), and the
+-- station is still the file's (Ready).
 -- Assumes nothing.
 use mathlib.Core.Path.{◌≡◌, ◌∙◌, refl, sym, ap}
 use Prim.Native.Nat.{ℕ}
@@ -51,7 +52,6 @@ loop-slip-preserved c =
           (λ o. eqb-false _ _ (sym (record_only _) ∙ sym c.eq.ensures ∙ c.if-eq.false) (sym e ∙ o)),
       s.0 ∙ i.1,
       ready-stays l.file _ c.take-taken.new.file _ _ c.take-taken.ensures.left i.2,
-      i.3,
     )
 
 pub returns : goal.returns

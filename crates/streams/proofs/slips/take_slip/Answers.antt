@@ -1,4 +1,4 @@
--- The file's faults come first.
+-- `slips::take_slip` meets its contract: the file's faults come first.
 -- Assumes nothing.
 use mathlib.Core.Path.{◌∙◌}
 use Rattle.codes.proofs.Told.{handed-on}

@@ -1,4 +1,4 @@
--- A byte past the part, or past the file, is none.
+-- `station::nudge` meets its contract: a byte past the part, or past the file, is none.
 -- Assumes nothing.
 use Rattle.shares.proofs.Changes.{nudge-past, nudge-out, nudge-in}
 use Rattle.streams.proofs.station.nudge.Goals as goal

@@ -1,4 +1,4 @@
--- The powers before the one in hand are made.
+-- `weights::powers_of` meets its contract. The loop's invariant: the powers before the one in hand are made.
 -- Assumes nothing.
 use mathlib.Core.Path.{◌∙◌, ap}
 use native.Mathlib.Omega.{arith}

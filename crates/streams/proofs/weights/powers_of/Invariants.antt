@@ -1,4 +1,4 @@
--- The powers before the one in hand are made.
+-- `weights::powers_of` meets its contract. The loop's invariant: the powers before the one in hand are made.
 -- Assumes nothing.
 use Rattle.std.proofs.Common.{◌≡◌, ℕ, ◌<◌, get_or, length}
 use Rattle.field.specs.Field.{pow}

@@ -1,4 +1,4 @@
--- The byte of the column, then that of the row.
+-- `Station::change_share` meets its contract: the byte of the column, then that of the row.
 -- Assumes nothing.
 use mathlib.Core.Path.{◌≡◌}
 use Prim.Native.Nat.{ℕ, ◌*◌, ◌≤◌}

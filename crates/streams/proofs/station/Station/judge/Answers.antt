@@ -1,4 +1,4 @@
--- Each answer stands for the first of the slip's faults that holds.
+-- `Station::judge` meets its contract: each answer stands for the first of the slip's faults that holds.
 -- Assumes nothing.
 use mathlib.Core.Path.{◌≡◌, ◌∙◌, sym, ap}
 use Prim.Native.Nat.{◌+◌}

@@ -1,4 +1,4 @@
--- A refusal is handed on, and a slip without a fault is taken.
+-- `Station::take` meets its contract: a refusal is handed on, and a slip without a fault is taken.
 -- Assumes nothing.
 use Rattle.codes.proofs.Told.{handed-on}
 use Rattle.shares.proofs.Faults.{faultless, judged-refused, judged-stays, judged-taken, judged-leaves}

@@ -1,4 +1,4 @@
--- The count is written, then the share, which stands behind it.
+-- `Station::take_faultless` meets its contract: the count is written, then the share, which stands behind it.
 -- Assumes nothing.
 use mathlib.Core.Path.{◌∙◌, ap}
 use Prim.Native.Nat.{ℕ, ◌+◌}

@@ -1,4 +1,4 @@
--- A point by itself weighs right: the field's product and power, read as symbols.
+-- `weigh` of a point by itself meets its contract: the field's product and power, read as symbols.
 -- Assumes nothing.
 use Rattle.shares.proofs.Changes.{amount-is}
 use Rattle.streams.proofs.weights.SymbolWeighs.weigh.Goals as goal

@@ -1,4 +1,4 @@
--- The powers that were made weigh right.
+-- `weigh` of the powers meets its contract: a power that was made is the field's.
 -- Assumes nothing.
 use mathlib.Core.Path.{◌∙◌, ap}
 use native.Mathlib.Omega.{arith}
