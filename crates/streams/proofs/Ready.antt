@@ -18,7 +18,8 @@ use Rattle.shares.proofs.Kept.{same_code}
 use Rattle.streams.specs.Ready.{Ready}
 use Rattle.streams.proofs.Alone.{head-stays}
 
-pub other_number : (a : Option ℕ) (m n : ℕ) → SomeIff a (m + 1 < 4294967296) (m + 1) → n < 4294967296 → not (option_eq eqb a (Some n)) ≡ true → n ≡ m + 1 → ⊥
+pub other_number : (a : Option ℕ) (m n : ℕ) → SomeIff a (m + 1 < 4294967296) (m + 1) → n < 4294967296
+    → not (option_eq eqb a (Some n)) ≡ true → n ≡ m + 1 → ⊥
 other_number None m n h k t e = h (omega arith)
 other_number (Some x) m n h k t e = eqb-false x n (not-true _ t) (h.1 ∙ sym e)
 

@@ -19,7 +19,8 @@ pub returns-else-head-ge45 : goal.returns-else-head-ge45
 returns-else-head-ge45 c =
     let s = c.args.head.now in (
       elim c.else-head-ge45.branch [
-        | else-head-ge45-via-then-head-ge45+else-is_total w ↦ no-stripes s (ap totalled (sym c.number2-total.ensures) ∙ sym w.is_total.ensures ∙ w.if-is_total.false)
+        | else-head-ge45-via-then-head-ge45+else-is_total w ↦
+            no-stripes s (ap totalled (sym c.number2-total.ensures) ∙ sym w.is_total.ensures ∙ w.if-is_total.false)
         | else-head-ge45-via-else-head-ge45 w ↦ no-head s w.if-head-ge45.false
       ],
       omega arith,

@@ -10,4 +10,7 @@ returns-then-at-j c = let a = c.args in nudge-in a.file.now a.at a.a a.j a.v c.i
 pub returns-else-j-a : goal.returns-else-j-a
 returns-else-j-a c =
     let a = c.args in
-    elim c.else-j-a.branch [ else-j-a-via-then-j-a+else-at-j w ↦ nudge-out a.file.now a.at a.a a.j a.v w.if-at-j.false | else-j-a-via-else-j-a w ↦ nudge-past a.file.now a.at a.a a.j a.v w.if-j-a.false ]
+    elim c.else-j-a.branch [
+      | else-j-a-via-then-j-a+else-at-j w ↦ nudge-out a.file.now a.at a.a a.j a.v w.if-at-j.false
+      | else-j-a-via-else-j-a w ↦ nudge-past a.file.now a.at a.a a.j a.v w.if-j-a.false
+    ]
