@@ -34,14 +34,16 @@ fn first_pair(m: &[u8; 32], n: usize) -> Option<(usize, usize)>
     ensures { MatchOption result (n ≤ pair_first m.now n)
         (λ p. (p.0 ≡ pair_first m.now n) × (p.1 ≡ pair_second m.now n p.0) × (p.0 < n) × (p.1 < n)) }
 {
-    for i in 0..n {
+    let mut found = None;
+    'pairs: for i in 0..n {
         for j in i + 1..n {
             if m[i] == m[j] {
-                return Some((i, j));
+                found = Some((i, j));
+                break 'pairs;
             }
         }
     }
-    None
+    found
 }
 
 // The first place from n on whose point is not zero.

@@ -25,13 +25,14 @@ use Rattle.codes.proofs.Refusal.second.Kinds as second-kinds
 use Rattle.codes.proofs.Refusal.second.Reads as second_reads
 use Rattle.solver.proofs.basis.Kinds as basis-kinds
 use Rattle.solver.proofs.basis.Reads as basis-reads
+use Rattle.codes.proofs.Only.{accepted-only}
 use Rattle.demands.specs.Equal.{Equal}
-use Rattle.demands.proofs.Only.{judge-only, cell-only, symbol-only}
+use Rattle.demands.proofs.Only.{cell-only, symbol-only}
 
 -- ---- codes
 
 pub judge-equal : Equal 0 judge-kinds.ps judge-kinds.r judge-reads.Post
-judge-equal κs a x y s t p q = judge-only _ x y (p.0 ∙ sym q.0) p.1 q.1
+judge-equal κs a x y s t p q = accepted-only _ x y p.1 q.1 (p.0 ∙ sym q.0)
 
 pub alpha-equal : Equal 0 alpha-kinds.ps alpha-kinds.r alpha-reads.Post
 alpha-equal κs a x y s t p q = p ∙ sym q

@@ -19,6 +19,14 @@ use Rattle.field.proofs.Symbol.times_by.Kinds as times-by-kinds
 use Rattle.field.proofs.Symbol.times_by.Reads as times-by-reads
 use Rattle.field.proofs.Symbol.over_by.Kinds as over-by-kinds
 use Rattle.field.proofs.Symbol.over_by.Reads as over-by-reads
+use Rattle.field.proofs.Products.times.Kinds as products-times-kinds
+use Rattle.field.proofs.Products.times.Reads as products-times-reads
+use Rattle.field.proofs.Products.over.Kinds as products-over-kinds
+use Rattle.field.proofs.Products.over.Reads as products-over-reads
+use Rattle.field.proofs.Products.raised.Kinds as products-raised-kinds
+use Rattle.field.proofs.Products.raised.Reads as products-raised-reads
+use Rattle.field.proofs.Products.slope.Kinds as products-slope-kinds
+use Rattle.field.proofs.Products.slope.Reads as products-slope-reads
 use Rattle.demands.specs.Equal.{Equal}
 use Rattle.demands.proofs.Only.{symbol-only}
 
@@ -48,3 +56,17 @@ times-by-equal κs a x y s t p q = symbol-only x y (p ∙ sym q)
 
 pub over-by-equal : Equal 1 over-by-kinds.ps over-by-kinds.r over-by-reads.Post
 over-by-equal κs a x y s t p q = symbol-only x y (p ∙ sym q)
+
+-- ---- the right table
+
+pub products-times-equal : Equal 1 products-times-kinds.ps products-times-kinds.r products-times-reads.Post
+products-times-equal κs a x y s t p q = symbol-only x y (p ∙ sym q)
+
+pub products-over-equal : Equal 1 products-over-kinds.ps products-over-kinds.r products-over-reads.Post
+products-over-equal κs a x y s t p q = symbol-only x y (p ∙ sym q)
+
+pub products-raised-equal : Equal 1 products-raised-kinds.ps products-raised-kinds.r products-raised-reads.Post
+products-raised-equal κs a x y s t p q = p ∙ sym q
+
+pub products-slope-equal : Equal 1 products-slope-kinds.ps products-slope-kinds.r products-slope-reads.Post
+products-slope-equal κs a x y s t p q = p ∙ sym q

@@ -31,8 +31,9 @@ use Rattle.batches.proofs.rebuild_batch.Kinds as rebuild-batch-kinds
 use Rattle.batches.proofs.rebuild_batch.Reads as rebuild-batch-reads
 use Rattle.batches.proofs.rebuild_file.Kinds as rebuild-file-kinds
 use Rattle.batches.proofs.rebuild_file.Reads as rebuild-file-reads
+use Rattle.codes.proofs.Only.{accepted-only}
 use Rattle.demands.specs.Equal.{Equal, EqualLeft}
-use Rattle.demands.proofs.Only.{judge-only, counted-only, encoded-only, filed-only}
+use Rattle.demands.proofs.Only.{counted-only, encoded-only, filed-only}
 
 -- ---- shares
 
@@ -55,7 +56,7 @@ pub is-total-equal : Equal 0 is-total-kinds.ps is-total-kinds.r is-total-reads.P
 is-total-equal κs a x y s t p q = p ∙ sym q
 
 pub judge-total-equal : Equal 0 judge-total-kinds.ps judge-total-kinds.r judge-total-reads.Post
-judge-total-equal κs a x y s t p q = judge-only _ x y (p.0 ∙ sym q.0) p.1 q.1
+judge-total-equal κs a x y s t p q = accepted-only _ x y p.1 q.1 (p.0 ∙ sym q.0)
 
 pub code-record-equal : Equal 0 code-record-kinds.ps code-record-kinds.r code-record-reads.Post
 code-record-equal κs a x y s t p q = p ∙ sym q

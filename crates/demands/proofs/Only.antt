@@ -1,22 +1,20 @@
 -- Two answers that say the same are equal: what an answer says fixes it.
---   accepted-only, judge-only                   an accepted code, by its code; and what the judge of a code answers
 --   encoded-only, helped-only, counted-only     of an operation on a stripe
 --   filed-only                                  of the judge of share files
 --   answer-only, shown-only                     of the outside boundary, and of its reader
+--   products-only                               the right table
 --   symbol-only, cell-only                      two symbols, and two places of a message's symbol, by their parts
 -- Assumes nothing.
 use mathlib.Core.Path.{◌≡◌, ◌∙◌, refl, sym, ap}
 use mathlib.Core.HLevel.{is_prop→PathP}
+use mathlib.Core.List.{List}
 use Prim.Native.Nat.{ℕ}
 use Rattle.std.proofs.Props.{props}
-use Rattle.std.specs.Prelude.{Result, Ok, Err, IfOk}
+use Rattle.std.specs.Prelude.{Result, Ok, Err}
+use Rattle.field.specs.Tables.{tables}
 use Rattle.field.specs.declared.Symbol.{Symbol}
+use Rattle.field.specs.declared.products.Products.{Products}
 use Rattle.codes.specs.Told.{Told, refused, done}
-use Rattle.codes.specs.Judge.{say_judged}
-use Rattle.codes.specs.Rules.{Rules}
-use Rattle.codes.specs.Known.{known_prop}
-use Rattle.codes.specs.declared.Code.{Code}
-use Rattle.codes.specs.declared.accepted.Accepted.{Accepted}
 use Rattle.codes.specs.declared.Refusal.{Refusal}
 use Rattle.codes.specs.declared.cells.Cell.{Cell}
 use Rattle.codes.proofs.Told.{number-nonzero, told-only}
@@ -36,21 +34,8 @@ use Rattle.records.specs.Reading.{Read}
 unrefused : {A : Type 0} (v : ℕ) (r : Refusal) → done v ≡ refused r → A
 unrefused v r e = absurd (number-nonzero r (sym (ap (λ (t : Told). t.number) e)))
 
-rules-prop : (c : Code) → IsProp (Rules c)
-rules-prop c = hlevel (props, known_prop)
-
-pub accepted-only : (a b : Accepted) → a.code ≡ b.code → a ≡ b
-accepted-only a b e = λ i. record { code = e i; rules = is_prop→PathP (λ j. Rules (e j)) (λ j. rules-prop (e j)) a.rules b.rules i }
-
-pub judge-only : (c : Code) (r s : Result Accepted Refusal) → say_judged r ≡ say_judged s
-    → IfOk r (λ (a : Accepted). a.code ≡ c) → IfOk s (λ (a : Accepted). a.code ≡ c) → r ≡ s
-judge-only c (Ok a) (Ok b) e f g = ap Ok (accepted-only a b (f ∙ sym g))
-judge-only c (Ok a) (Err s) e f g = unrefused 0 s e
-judge-only c (Err r) (Ok b) e f g = unrefused 0 r (sym e)
-judge-only c (Err r) (Err s) e f g = ap Err (told-only r s e)
-
 pub encoded-only : (r s : Result Unit Refusal) → say_encoded r ≡ say_encoded s → r ≡ s
-encoded-only r s e = judged-only r s e
+encoded-only r s e = judged-only (λ a b. refl) r s e
 
 pub helped-only : (r s : Result Symbol Refusal) → say_helped r ≡ say_helped s → r ≡ s
 helped-only (Ok a) (Ok b) e = ap (λ (n : ℕ). Ok (record { 0 = n })) (ap (λ (t : Told). t.value) e)
@@ -84,6 +69,15 @@ shown-only r s x p q = λ i. record {
   start = (p.start ∙ sym q.start) i;
   end = (p.end ∙ sym q.end) i;
   next = (p.next ∙ sym q.next) i;
+}
+
+right-prop : (bs : List ℕ) → IsProp (bs ≡ tables)
+right-prop bs = hlevel props
+
+pub products-only : (a b : Products) → a ≡ b
+products-only a b = λ i. record {
+  bytes = (a.right ∙ sym b.right) i;
+  right = is_prop→PathP (λ j. (a.right ∙ sym b.right) j ≡ tables) (λ j. right-prop ((a.right ∙ sym b.right) j)) a.right b.right i;
 }
 
 pub symbol-only : (a b : Symbol) → a.0 ≡ b.0 → a ≡ b

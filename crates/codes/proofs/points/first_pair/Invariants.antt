@@ -2,12 +2,13 @@
 -- Assumes nothing.
 use mathlib.Core.Path.{◌≡◌}
 use Prim.Native.Nat.{◌-◌}
+use Rattle.std.specs.Prelude.{None}
 use Rattle.codes.specs.First.{first}
 use Rattle.codes.specs.Judge.{alike, again, pair_first, pair_second}
 use Rattle.codes.proofs.points.first_pair.Given as goal
 
 abbrev pub invariant-loop-j : goal.invariant-loop-j
-invariant-loop-j l = first (l.n - l.j) l.j (alike l.m l.i) ≡ pair_second l.m l.n l.i
+invariant-loop-j l = (l.found ≡ None) × (first (l.n - l.j) l.j (alike l.m l.i) ≡ pair_second l.m l.n l.i)
 
-abbrev pub invariant-loop-i : goal.invariant-loop-i
-invariant-loop-i l = first (l.n - l.i) l.i (again l.m l.n) ≡ pair_first l.m l.n
+abbrev pub invariant-pairs : goal.invariant-pairs
+invariant-pairs l = (l.found ≡ None) × (first (l.n - l.i) l.i (again l.m l.n) ≡ pair_first l.m l.n)
