@@ -19,8 +19,7 @@ mod points; // points.rt: the first offending pair of points, and unused points
 pub use accepted::Accepted;
 pub use body::code_at;
 pub use cells::Cell;
-use limits::MBR;
-pub use limits::{is_known, is_sized};
+pub use limits::{MBR, is_known, is_sized};
 use points::judge_points;
 
 // A station's number, from 1. It cannot be multiplied, and a symbol cannot stand for it.

@@ -6,7 +6,7 @@
 --   first-at                     an entry of P
 --   solved                       the weights of a solver, applied to values
 --   half-row                     the solution of the system without one point
---   halves-none, halves-store    the rows of P and of Q solved, two a turn
+--   halves-store                 the rows of P and of Q solved, two a turn
 --   joins                        the steps of kind 1 make S beside T
 --   stacks                       the steps of kind 2 make S1 above S2
 --   gathered-one, gathered-two   they are the matrix of a code of their kind
@@ -100,9 +100,6 @@ pub half-row : (w : ℕ) (xs o : List ℕ) (u : ℕ) (f : List (List ℕ)) (y : 
 half-row w xs o u f y p r σ e v d i h = d i h ∙ solved w o f σ e v i h
 
 module _ (w : ℕ) (xs l : Vec) (R : Grid) where
-  pub halves-none : (h : List (List ℕ)) → Halves w xs l R 0 h
-  halves-none h = record { upper = below_none _; lower = below_none _ }
-
   pub halves-store : (u : ℕ) (h : List (List ℕ)) (a b : List ℕ) → u < w → w + u < length h → Halves w xs l R u h → Same w (at a) (without w xs u (first l R u))
       → Same w (at b) (without w xs u (second l R u)) → Halves w xs l R (u + 1) (set (set h u a) (w + u) b)
   halves-store u h a b k m s p q = record {

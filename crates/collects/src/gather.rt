@@ -12,7 +12,7 @@ ghost use Rattle.collects.specs.Gather.{From, deep};
 use crate::mbr::mbr;
 use crate::msr::msr;
 use crate::square::{Row, Square, entry, flip};
-use codes::Accepted;
+use codes::{Accepted, MBR};
 use field::{Products, Symbol};
 use rebuilds::points::points_of;
 
@@ -25,6 +25,7 @@ pub fn weights(xs: Row, s: usize) -> Square
 }
 
 // The first n powers of a point.
+// Stays: beside the row of `stripes`, which has 31 powers: here only n of them are made, for each of k points.
 fn powers(x: u8, n: usize, t: &Products) -> Row
     requires { n ≤ 31 }
     ensures { Same n (at result) (pow (symbol x)) }
@@ -85,7 +86,7 @@ fn gathered(accepted: Accepted, shares: &Shares) -> Square
     ensures { From accepted.code.k (alpha accepted.code) shares.now.points shares.now.rows (λ X C. Holds (deep accepted.code) (alpha accepted.code) result (gathered accepted.code X C)) }
 {
     let code = accepted.code;
-    if code.kind == 1 {
+    if code.kind == MBR {
         mbr(shares, code.k as usize, code.d as usize)
     } else {
         msr(shares, (code.k - 1) as usize)

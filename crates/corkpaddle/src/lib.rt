@@ -10,6 +10,7 @@ pub mod stripe; // stripe.rt: the functions on one stripe
 pub mod wholes; // wholes.rt: batches, whole share files and books
 
 // An answer as it crosses: document 01's number, the pair of refusal 4, and the slip count of a done answer.
+// Stays: numbers in place of a Result, since no enum crosses to C.
 #[repr(C)]
 #[derive(Clone, Copy)]
 pub struct Answer {

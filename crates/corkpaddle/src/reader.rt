@@ -5,6 +5,7 @@ ghost use Rattle.corkpaddle.specs.Reader.{Shows};
 use records::reading::read_at;
 
 // What was read, as it crosses: 0 and the places of a body; or refusal 1, no body, and the place that was asked.
+// Stays: numbers in place of a Result, since no enum crosses to C.
 #[repr(C)]
 #[derive(Clone, Copy)]
 pub struct Record {

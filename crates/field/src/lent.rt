@@ -9,6 +9,7 @@ use crate::logs::LOGS;
 
 impl Symbol {
     // The product as a lent table has it; by `tables()` it is `times`.
+    // Stays: beside `times`, as `over_by` beside `over`. Each is public with a promise of its own, and only the test for 0 is the same.
     #[tactic(auto, using(crate::proofs::Lookup::by_a_table), unfolding(crate::specs::Tables::by_table))]
     pub fn times_by(self, b: Symbol, t: &[u8; 768]) -> Symbol
         ensures { result.0 ≡ by_table t.now self.0 b.0 }

@@ -6,14 +6,14 @@ ghost use Rattle.rebuilds.specs.Plan.{weighed};
 ghost use Rattle.rebuilds.specs.Weights.{factor, folded, folded_rows};
 
 use crate::Plan;
-use codes::{Code, Node};
+use codes::{Code, MBR, Node};
 use field::{Products, Symbol};
 
 // By what the second half of a solution is multiplied.
 fn factor_of(code: Code, failed: Node) -> u8
     ensures { result ≡ (factor code failed.0).val }
 {
-    if code.kind == 1 {
+    if code.kind == MBR {
         0
     } else {
         code.point(failed).power(code.alpha()).0

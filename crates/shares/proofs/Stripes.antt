@@ -1,5 +1,5 @@
 -- The D records of a share file, as the judge goes through them.
---   not-read, err-read, is_read     what a reading says of the test that a record stands there
+--   not-read, is_read     what a reading says of the test that a record stands there
 --   read-start, node-room, stripe-room     where the body of a record that was read stands
 --   spare-from            the symbols past the first a
 --   stripe-none, stripe-other, stripe-spare            a D record by its parts
@@ -18,7 +18,6 @@ use Rattle.records.specs.Reading.{found, no_record, whole_as, answered, read_as}
 use Rattle.records.proofs.Whole.{body-holds, as-kind, as_read, read-inside}
 use Rattle.shares.specs.Fields.{stripe_at}
 use Rattle.shares.specs.File.{below, zero_past, spare, stripe_good}
-use Rattle.std.specs.Result.{is_err}
 use Rattle.std.specs.List.{list_all, range_with_len}
 use Rattle.shares.proofs.Below.{below_each, below-from}
 
@@ -31,13 +30,6 @@ module _ (s : List ℕ) (place : ℕ) where
 
   pub not-read : (kind p : ℕ) → read_as s place kind ≡ no_record p → whole_as s place kind ≡ false
   not-read kind p e = refused-by (whole_as s place kind) p e
-
-  err-answered : (t : Bool) → is_err (answered t s place) ≡ not t
-  err-answered true = refl
-  err-answered false = refl
-
-  pub err-read : (kind : ℕ) → is_err (read_as s place kind) ≡ not (whole_as s place kind)
-  err-read kind = err-answered (whole_as s place kind)
 
   module _ (kind start end next : ℕ) (e : read_as s place kind ≡ found start end next) where
     pub is_read : whole_as s place kind ≡ true

@@ -74,9 +74,9 @@ fn judge_rest(file: &[u8], code: Code) -> Result<Filed, Refusal>
 pub fn judge_file(file: &[u8]) -> Result<Filed, Refusal>
     ensures { Says (file_reasons file.now) file.now result }
 {
-    if read_as(file, 0, CODE).is_err() {
+    let Ok(_) = read_as(file, 0, CODE) else {
         return Err(Refusal::Record);
-    }
+    };
     let code = judge(code_in(file))?.code;
     judge_rest(file, code)
 }

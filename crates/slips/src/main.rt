@@ -15,6 +15,7 @@ fn fill(input: &mut impl Read, buffer: &mut [u8]) -> usize
     ensures { result ≤ length buffer.old }
 {
     let mut done = 0;
+    // Stays: a loop by hand, since std's readers do not say how many bytes came before the end.
     while done < buffer.len() {
         let n = input.read(&mut buffer[done..]).unwrap_or(0);
         if n == 0 {

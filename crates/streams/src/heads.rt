@@ -33,6 +33,7 @@ pub fn number_told<T: Drop>(answer: Result<T, Refusal>) -> u8
 }
 
 // The number of a share file's refusal: 0 where it is accepted.
+// Stays: a number, as an E record holds it; the theorem refusal-of-equal names it.
 pub fn refusal_of(file: &[u8]) -> u8
     ensures { result ≡ (file_told file.now).number }
 {

@@ -6,6 +6,7 @@ ghost use Rattle.codes.specs.Matrix.{mbr, msr, matrix};
 ghost use Rattle.stripes.specs.Arrays.{Placed};
 
 use crate::shape::Shape;
+use codes::MBR;
 
 // Where row i of a triangle of w rows begins.
 fn start_of(w: usize, i: usize) -> usize
@@ -65,7 +66,7 @@ impl Shape {
         ensures { Placed (λ f. matrix self.now.code f i j) result }
     {
         let k = self.code.k as usize;
-        if self.code.kind == 1 {
+        if self.code.kind == MBR {
             mbr_place(k, self.code.d as usize, i, j)
         } else {
             Some(msr_place(k, i, j))

@@ -2,10 +2,10 @@
 use Rattle.rebuilds.proofs.Weighing.{factor-none, factor-power}
 use Rattle.rebuilds.proofs.weigh.factor_of.Goals as goal
 
-pub returns-then-code-eq1 : goal.returns-then-code-eq1
-returns-then-code-eq1 c = factor-none _ _ c.if-code-eq1.true
+pub returns-then-code-eq-MBR : goal.returns-then-code-eq-MBR
+returns-then-code-eq-MBR c = factor-none _ _ c.if-code-eq-MBR.true
 
-pub returns-else-code-eq1 : goal.returns-else-code-eq1
-returns-else-code-eq1 c =
+pub returns-else-code-eq-MBR : goal.returns-else-code-eq-MBR
+returns-else-code-eq-MBR c =
     let s = c.args in
-    cc (factor-power s.code s.failed.0 c.if-code-eq1.false)
+    cc (factor-power s.code s.failed.0 c.if-code-eq-MBR.false)

@@ -24,18 +24,18 @@ module _ (c : Code) (i j : ℕ) where
 pub mbr_place-requires : goal.mbr_place-requires
 mbr_place-requires c =
     let s = c.args.self.now in
-    (s.sized.order, d-most _ s.sized, omega arith, omega (arith, alpha-one s.code c.if-self-eq1.true))
+    (s.sized.order, d-most _ s.sized, omega arith, omega (arith, alpha-one s.code c.if-self-eq-MBR.true))
 
-pub returns-then-self-eq1 : goal.returns-then-self-eq1
-returns-then-self-eq1 c = one _ _ _ _ c.if-self-eq1.true c.mbr_place.ensures
+pub returns-then-self-eq-MBR : goal.returns-then-self-eq-MBR
+returns-then-self-eq-MBR c = one _ _ _ _ c.if-self-eq-MBR.true c.mbr_place.ensures
 
 pub msr_place-requires : goal.msr_place-requires
 msr_place-requires c =
     let s = c.args.self.now in
-    let h = c.if-self-eq1.false in
+    let h = c.if-self-eq-MBR.false in
     let e = kind-two s.code s.known h in
     let t = s.sized.second e in
     (t.0, k-most s.code s.sized e, omega (arith, t.1), omega (arith, alpha-two s.code h))
 
-pub returns-else-self-eq1 : goal.returns-else-self-eq1
-returns-else-self-eq1 c = two _ _ _ _ c.if-self-eq1.false c.msr_place.ensures
+pub returns-else-self-eq-MBR : goal.returns-else-self-eq-MBR
+returns-else-self-eq-MBR c = two _ _ _ _ c.if-self-eq-MBR.false c.msr_place.ensures
