@@ -59,6 +59,7 @@ impl Batch<'_> {
     }
 
     // The byte at a place of each record, then zeros.
+    // Stays: an array for the longest column, since the library has no heap.
     pub fn column(&self, at: usize) -> [u8; 31]
         requires { at < 10 }
         ensures { take self.now.code.code.d result ≡ list_of self.now.code.code.d (field_of at self.now.bytes.now) }

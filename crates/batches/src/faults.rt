@@ -49,7 +49,7 @@ impl Batch<'_> {
     }
 
     // The first fault. other: the batch has another count than it must have; placed: it names the stripe that it must name.
-    // Stays: two tests handed in, since a batch by itself knows neither what count nor what stripe it must have.
+    // Stays: two tests handed in. The definition `faults` names both, and another form is no plainer.
     pub fn judge(&self, asked: Node, other: bool, placed: bool) -> Result<(), Refusal>
         ensures { say_judged result ≡ answered (faults self.now.code.code asked.0 self.now.bytes.now other placed) (pair_in self.now.code.code) 0 }
     {

@@ -1,15 +1,16 @@
 // The edges of the judge. For each, a line with what is judged, the answer's number and, for refusal 4, its pair.
 ghost use Rattle.std.specs.Prelude.{◌<◌};
 
-use crate::answers::print_answer;
-use codes::Code;
+use crate::answers::{Stdout, print_answer};
+use codes::{Code, MBR, MSR};
 use field::Symbol;
-use std::{array, io};
+use std::fmt::Write;
+use std::{array, fmt};
 
-fn show(rt: &impl Print, label: &str, code: Code) -> io::Result<()> {
-    print!(rt; "{label}: ")?;
-    print_answer(rt, codes::judge(code))?;
-    println!(rt; "")
+fn show(out: &mut Stdout, label: &str, code: Code) -> fmt::Result {
+    write!(out, "{label}: ")?;
+    print_answer(out, codes::judge(code))?;
+    writeln!(out)
 }
 
 // A code whose points are 0, 1, 2 and so on.
@@ -23,12 +24,12 @@ fn code(kind: u8, n: u8, k: u8, d: u8) -> Code {
     }
 }
 
-fn show_size(rt: &impl Print, name: &str, kind: u8, n: u8, k: u8, d: u8) -> io::Result<()> {
-    print!(rt; "{name} n={n} k={k} d={d}")?;
-    show(rt, "", code(kind, n, k, d))
+fn show_size(out: &mut Stdout, name: &str, kind: u8, n: u8, k: u8, d: u8) -> fmt::Result {
+    write!(out, "{name} n={n} k={k} d={d}")?;
+    show(out, "", code(kind, n, k, d))
 }
 
-pub fn sizes(rt: &impl Print) -> io::Result<()> {
+pub fn sizes(out: &mut Stdout) -> fmt::Result {
     for (n, k, d) in [
         (32, 31, 31),
         (33, 31, 31),
@@ -38,17 +39,17 @@ pub fn sizes(rt: &impl Print) -> io::Result<()> {
         (4, 0, 3),
         (4, 4, 3),
     ] {
-        show_size(rt, "MBR", 1, n, k, d)?;
+        show_size(out, "MBR", MBR, n, k, d)?;
     }
     for (n, k, d) in [(3, 1, 1), (5, 3, 4), (5, 3, 3), (31, 16, 30)] {
-        show_size(rt, "MSR", 2, n, k, d)?;
+        show_size(out, "MSR", MSR, n, k, d)?;
     }
     Ok(())
 }
 
-pub fn kinds(rt: &impl Print) -> io::Result<()> {
-    show(rt, "kind 0", code(0, 4, 2, 3))?;
-    show(rt, "kind 3", code(3, 4, 2, 3))
+pub fn kinds(out: &mut Stdout) -> fmt::Result {
+    show(out, "kind 0", code(0, 4, 2, 3))?;
+    show(out, "kind 3", code(3, 4, 2, 3))
 }
 
 fn with_point(mut code: Code, at: usize, x: u8) -> Code
@@ -58,17 +59,17 @@ fn with_point(mut code: Code, at: usize, x: u8) -> Code
     code
 }
 
-pub fn points(rt: &impl Print) -> io::Result<()> {
-    let equal_cubes = with_point(code(2, 7, 4, 6), 5, 214);
+pub fn points(out: &mut Stdout) -> fmt::Result {
+    let equal_cubes = with_point(code(MSR, 7, 4, 6), 5, 214);
     show(
-        rt,
+        out,
         "MSR k=4, points 1 and 2^85 have equal cubes",
         equal_cubes,
     )?;
-    let distinct = with_point(code(1, 7, 4, 6), 5, 214);
-    show(rt, "MBR, the same points", distinct)?;
-    let unused = with_point(code(1, 4, 2, 3), 5, 9);
-    show(rt, "an unused point that is not zero", unused)?;
+    let distinct = with_point(code(MBR, 7, 4, 6), 5, 214);
+    show(out, "MBR, the same points", distinct)?;
+    let unused = with_point(code(MBR, 4, 2, 3), 5, 9);
+    show(out, "an unused point that is not zero", unused)?;
     let both = with_point(unused, 3, 1);
-    show(rt, "a pair and an unused point", both)
+    show(out, "a pair and an unused point", both)
 }

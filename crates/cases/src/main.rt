@@ -1,20 +1,21 @@
 // The worked cases of document 01 that are run and not proved: the edges of the judge, and then the midnight story.
 #![tactic(auto)]
 
-use std::io;
+use answers::Stdout;
+use std::fmt;
 
-mod answers; // answers.rt: how an answer is printed
+mod answers; // answers.rt: standard output, and how an answer is printed
 mod edges; // edges.rt: codes at the edges of their rules
 mod midnight; // midnight.rt: slips delivered twice, a share lost and rebuilt
 
-fn run(rt: &impl Print) -> io::Result<()> {
-    edges::sizes(rt)?;
-    edges::kinds(rt)?;
-    edges::points(rt)?;
-    midnight::midnight(rt)
+fn run(out: &mut Stdout) -> fmt::Result {
+    edges::sizes(out)?;
+    edges::kinds(out)?;
+    edges::points(out)?;
+    midnight::midnight(out)
 }
 
-fn main(rt: HostRuntime) {
+fn main() {
     // Where writing fails the cases end, and the status is 0 all the same.
-    let _ = run(&rt);
+    let _ = run(&mut Stdout);
 }

@@ -7,9 +7,10 @@ use Prim.Native.Nat.{ℕ, ◌+◌, ◌*◌, ◌-◌, ◌<◌, ◌≤◌}
 use native.Mathlib.Nat.{add-sub_of_le}
 use native.Mathlib.Decide.{dec_le, dec_lt}
 use native.Mathlib.Omega.{arith}
-use Rattle.algebra.specs.Symbol.{F, 𝟘}
-use Rattle.algebra.specs.Sums.{Vec, Grid, Same, SameGrid, Symmetric}
+use Rattle.algebra.specs.Symbol.{F, ◌⊕◌, 𝟘}
+use Rattle.algebra.specs.Sums.{Vec, Grid, Same, SameGrid, Symmetric, ◌⊞◌}
 use Rattle.algebra.specs.Collect.{Shape}
+use Rattle.algebra.proofs.Ring.{add-zero}
 use Rattle.algebra.proofs.Sums.{pick-lt, pick-ge}
 use Rattle.codes.specs.General.{Stands, Layout, entry, filled, reading}
 
@@ -39,6 +40,14 @@ pub entry-same : (B : ℕ) {m m' : Vec} → Same B m m' → (n : ℕ) → entry 
 entry-same B {m} {m'} e n =
     by_cases (dec_lt n B) (λ h. entry-within B m n h ∙ e n h ∙ sym (entry-within B m' n h))
     (λ k. entry_past B m n (omega arith) ∙ sym (entry_past B m' n (omega arith)))
+
+-- a filled matrix is additive in the message
+pub filled-add : (B : ℕ) (idx : ℕ → ℕ → ℕ) (m m' : Vec) (r j : ℕ) → filled B idx (m ⊞ m') r j ≡ filled B idx m r j ⊕ filled B idx m' r j
+filled-add B idx m m' r j =
+    by_cases (dec_lt (idx r j) B)
+    (λ h. entry-within B (m ⊞ m') (idx r j) h ∙ ap₂ ◌⊕◌ (sym (entry-within B m (idx r j) h)) (sym (entry-within B m' (idx r j) h)))
+    (λ n. let h : B ≤ idx r j = omega arith in
+    entry_past B (m ⊞ m') (idx r j) h ∙ sym (ap₂ ◌⊕◌ (entry_past B m (idx r j) h) (entry_past B m' (idx r j) h) ∙ add-zero 𝟘))
 
 -- ---- shapes
 

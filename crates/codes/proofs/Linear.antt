@@ -1,12 +1,12 @@
 -- A message's matrix and its shares are linear in the message, for every code and every message.
 -- Assumes nothing.
-use mathlib.Core.Path.{◌≡◌, ◌∙◌, refl, ap, ap₂}
+use mathlib.Core.Path.{◌≡◌, ◌∙◌, refl, sym, ap, ap₂, fun_ext}
 use mathlib.Core.Bool.{Bool, true, false, cond}
 use Prim.Native.Nat.{ℕ, ◌-◌}
 use lib.Dec.{eqb, ltb}
-use Rattle.algebra.specs.Symbol.{F, ◌⊕◌, ◌⊗◌, 𝟘}
-use Rattle.algebra.specs.Sums.{Vec}
-use Rattle.algebra.proofs.Ring.{ring}
+use Rattle.algebra.specs.Symbol.{F, ◌⊕◌, ◌⊗◌, 𝟘, 𝟙}
+use Rattle.algebra.specs.Sums.{Vec, ◌⊞◌}
+use Rattle.algebra.proofs.Ring.{ring, one-mul}
 use Rattle.algebra.proofs.Sums.{dot-same, dot-add, dot-mul}
 use Rattle.codes.specs.Sizes.{row}
 use Rattle.codes.specs.Matrix.{mbr, msr, matrix}
@@ -46,3 +46,8 @@ share-linear c v a m m' j =
     dot-same c.d (λ r x. refl) (λ r x. matrix-linear c a m m' r j)
     ∙ dot-add c.d (row c v) (λ r. matrix c m r j) (λ r. a ⊗ matrix c m' r j)
     ∙ ap (λ (x : F). share_at c v m j ⊕ x) (dot-mul c.d a (row c v) (λ r. matrix c m' r j))
+
+pub share-add : (c : Code) (v : ℕ) (m m' : Vec) (j : ℕ) → share_at c v (m ⊞ m') j ≡ share_at c v m j ⊕ share_at c v m' j
+share-add c v m m' j =
+    ap (λ (x : Vec). share_at c v x j) (fun_ext (λ n. ap (λ (x : F). m n ⊕ x) (sym (one-mul (m' n)))))
+    ∙ share-linear c v 𝟙 m m' j ∙ ap (λ (x : F). share_at c v m j ⊕ x) (one-mul (share_at c v m' j))

@@ -2,8 +2,9 @@
 -- Assumes nothing.
 use mathlib.Core.Path.{◌≡◌, ◌∙◌, sym}
 use mathlib.Core.Logic.{inl, inr}
-use Prim.Native.Nat.{◌+◌, ◌*◌, ◌-◌, ◌≤◌}
+use Prim.Native.Nat.{ℕ, ◌+◌, ◌*◌, ◌-◌, ◌≤◌}
 use native.Mathlib.Omega.{arith}
+use Rattle.algebra.specs.Symbol.{𝟘}
 use Rattle.algebra.specs.Sums.{Vec, Grid, Same, SameGrid, Symmetric}
 use Rattle.algebra.specs.Collect.{Sizes, Shape}
 use Rattle.codes.specs.Sizes.{alpha, bytes}
@@ -12,7 +13,7 @@ use Rattle.codes.specs.Rules.{Rules}
 use Rattle.codes.specs.General.{Layout, filled, reading, idx_of}
 use Rattle.codes.specs.declared.Code.{Code}
 use Rattle.codes.proofs.Sizes.{alpha-one, alpha-two}
-use Rattle.codes.proofs.General.{entry-same, shape_same, filled-symmetric, filled-shape, read-filled, filled-read}
+use Rattle.codes.proofs.General.{entry-ends, entry-same, shape_same, filled-symmetric, filled-shape, read-filled, filled-read}
 use Rattle.codes.proofs.Moved.{place-within}
 use Rattle.codes.proofs.Mbr.{layout-mbr, matrix-mbr}
 use Rattle.codes.proofs.Msr.{layout-msr, matrix-msr}
@@ -52,6 +53,10 @@ module _ {c : Code} (R : Rules c) where
   ]
 
   -- ---- the matrix of a message, in the general form
+
+  -- of a message that is 𝟘 past its end
+  pub matrix-index : (m : Vec) → ((n : ℕ) → bytes c ≤ n → m n ≡ 𝟘) → SameGrid c.d (alpha c) (matrix c m) (λ r j. m (idx_of c r j))
+  matrix-index m z r j x y = matrix-filled m r j x y ∙ entry-ends (bytes c) m z (idx_of c r j)
 
   pub matrix-symmetric : (m : Vec) → Symmetric (alpha c) (matrix c m)
   matrix-symmetric m i j x y =

@@ -69,6 +69,9 @@ module _ (c : Code) (r : Rules c) where
   pub k_two : c.kind ≡ 2 → c.k ≤ 16
   k_two h = omega (arith, r.second h, d-high)
 
+  pub alpha-low : 1 ≤ alpha c
+  alpha-low = ⊎_elim (λ e. omega (arith, alpha-one c e, r.least, r.order)) (λ e. omega (arith, alpha-two c (λ f. omega arith), r.second e)) r.kinds
+
   pub alpha-high : alpha c ≤ 31
   alpha-high = ⊎_elim (λ e. omega (arith, alpha-one c e, d-high)) (λ e. omega (arith, alpha-two c (λ f. omega arith), k_two e)) r.kinds
 

@@ -5,11 +5,11 @@ use mathlib.Core.Logic.{inl, inr}
 use mathlib.Core.Bool.{Bool, true, false, not, ◌&&◌, ◌||◌}
 use Prim.Native.Nat.{ℕ, ◌*◌, ◌-◌}
 use lib.Dec.{eqb, leb}
-use borrow.Author.Tests.{leb-true, eqb-true, eq-eqb, le-leb}
+use borrow.Author.Tests.{leb-true, eqb-true, eq-eqb, ne_eqb, le-leb}
 use Rattle.codes.specs.Judge.{known, sized}
 use Rattle.codes.specs.Rules.{Known, Sized}
 use Rattle.codes.specs.declared.Code.{Code}
-use Rattle.codes.proofs.Bools.{apart, by-test, both, and_left, and_right}
+use Rattle.codes.proofs.Bools.{apart, by-test, both, and_left, and_right, fails}
 
 pub known-when : (kind : ℕ) → Known kind → known kind ≡ true
 unfolding known
@@ -19,6 +19,10 @@ known-when kind (inr e) = by-test (eqb kind 1) (λ t. simp t) (λ t. simp (t, eq
 pub known_only : (kind : ℕ) → known kind ≡ true → Known kind
 unfolding known
 known_only kind e = by-test (eqb kind 1) (λ t. inl (eqb-true kind 1 t)) (λ t. inr (eqb-true kind 2 (simp t at e)))
+
+pub known-other : (kind : ℕ) → (kind ≡ 1 → ⊥) → known kind ≡ eqb kind 2
+unfolding known
+known-other kind h = simp (ne_eqb kind 1 h)
 
 -- a rule that is asked of kind 2 alone
 asked : (t b : Bool) → (t ≡ true → b ≡ true) → (not t || b) ≡ true
@@ -62,3 +66,7 @@ sized-only c e =
         eqb-true c.d (2 * c.k - 2) (and_right (leb 2 c.k) (eqb c.d (2 * c.k - 2)) (e6 h)),
       );
     }
+
+-- a code that breaks a rule
+pub unsized : (c : Code) → (Sized c → ⊥) → sized c ≡ false
+unsized c h = fails (sized c) (λ e. h (sized-only c e))

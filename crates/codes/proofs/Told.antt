@@ -118,6 +118,16 @@ told-value : (n : ℕ) (p : ℕ × ℕ) (v : ℕ) → n ≢ 0 → (tell n p v).v
 unfolding tell
 told-value n p v z = simp (ne_eqb n 0 z)
 
+told-bare : (n : ℕ) (p : ℕ × ℕ) → (tell n p 0).value ≡ 0
+unfolding tell
+told-bare zero p = refl
+told-bare (suc n) p = told-value (suc n) p 0 (λ e. omega arith)
+
+-- an operation whose done carries nothing
+pub answered-bare : (rs : List Reason) (p : ℕ × ℕ) → (answered rs p 0).value ≡ 0
+unfolding answered
+answered-bare rs p = told-bare (refusal rs) p
+
 module _ (rs : List Reason) (p : ℕ × ℕ) (v : ℕ) where
   pub answered-pair : refusal rs ≢ 4 → ((answered rs p v).first ≡ 0) × ((answered rs p v).second ≡ 0)
   unfolding answered
@@ -209,13 +219,7 @@ named_back Place = refl
 pub told-only : (r s : Refusal) → refused r ≡ refused s → r ≡ s
 told-only r s e = sym (named_back r) ∙ ap (λ (t : Told). named t.number t.first t.second) e ∙ named_back s
 
--- what an answer says, from what it is, and a refusal that a `?` hands on
-
-pub done-from : {A : Type 0} (v : A → ℕ) {j : Result A Refusal} {x : A} {t : Told} → j ≡ Ok x → say v j ≡ t → done (v x) ≡ t
-done-from v g e = sym (ap (say v) g) ∙ e
-
-pub refused-from : {A : Type 0} (v : A → ℕ) {j : Result A Refusal} {r : Refusal} {t : Told} → j ≡ Err r → say v j ≡ t → refused r ≡ t
-refused-from v g e = sym (ap (say v) g) ∙ e
+-- a refusal that a `?` hands on
 
 pub handed-on : {A : Type 0} (v : A → ℕ) (j : Result A Refusal) (r : Refusal) {t : Told} → IsErrAnd j (λ d. d ≡ r) → refused r ≡ t → say v j ≡ t
 handed-on v (Ok a) r h e = absurd h

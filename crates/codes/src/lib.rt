@@ -19,7 +19,7 @@ mod points; // points.rt: the first offending pair of points, and unused points
 pub use accepted::Accepted;
 pub use body::code_at;
 pub use cells::Cell;
-pub use limits::{MBR, is_known, is_sized};
+pub use limits::{MBR, MSR, is_known, is_sized};
 use points::judge_points;
 
 // A station's number, from 1. It cannot be multiplied, and a symbol cannot stand for it.
@@ -82,6 +82,7 @@ impl Refusal {
     }
 
     // The second place of its pair; 0 where it names none.
+    // Stays: beside `first`, since each is public with a promise of its own.
     pub fn second(self) -> u8
         ensures { result ≡ second_of self }
     {

@@ -5,7 +5,6 @@ ghost use Rattle.codes.specs.Judge.{known, sized};
 use crate::Code;
 
 // The two kinds, by their bytes in a C record.
-// The number of each kind in a C record.
 pub const MBR: u8 = 1;
 
 pub const MSR: u8 = 2;

@@ -28,6 +28,7 @@ fn marks_of(code: Code) -> [u8; 32]
 }
 
 // The first pair of places below n with equal marks.
+// Stays: nested loops left by a label, a form that document 01 names; a count beside the array, since the definition has it so.
 #[tactic(auto, using(crate::proofs::First::searches), unfolding(crate::specs::Judge::pair_first, crate::specs::Judge::pair_second))]
 fn first_pair(m: &[u8; 32], n: usize) -> Option<(usize, usize)>
     requires { n ≤ 32 }
@@ -47,6 +48,7 @@ fn first_pair(m: &[u8; 32], n: usize) -> Option<(usize, usize)>
 }
 
 // The first place from n on whose point is not zero.
+// Stays: a loop over places. `position` would count from n, and each answer would have to be moved back.
 #[tactic(auto, using(crate::proofs::First::searches), unfolding(crate::specs::Judge::unused_at))]
 fn first_unused(points: &[Symbol; 32], n: usize) -> Option<usize>
     requires { n ≤ 32 }

@@ -25,7 +25,7 @@ pub fn weights(xs: Row, s: usize) -> Square
 }
 
 // The first n powers of a point.
-// Stays: beside the row of `stripes`, which has 31 powers: here only n of them are made, for each of k points.
+// Stays: beside the row of `stripes`. That one makes 31 powers, and here n are made for each of k points: with n = 10 a third of the products.
 fn powers(x: u8, n: usize, t: &Products) -> Row
     requires { n ≤ 31 }
     ensures { Same n (at result) (pow (symbol x)) }

@@ -1,4 +1,4 @@
-// Squares of 31 by 31 bytes: rows, columns and their products by the lent table, which is made once for a stripe.
+// Squares of 31 by 31 bytes: rows, columns and their products by the lent products, which are made once for a stripe.
 ghost use Rattle.std.specs.Prelude.{◌≡◌, ℕ, ◌+◌, ◌≤◌, ◌<◌, get_or, length};
 ghost use Rattle.algebra.specs.Symbol.{symbol, 𝟘};
 ghost use Rattle.algebra.specs.Sums.{Same, pick, dot, flip};

@@ -1,4 +1,5 @@
--- Two answers that meet a promise are equal (specs/Equal.antt): the theorem FUNCTION-equal for each public function of shares, books and batches.
+-- Two answers that meet a promise are equal (specs/Equal.antt): the theorem FUNCTION-equal for each public function of shares, books and batches,
+-- and for streams::take_slip. is-node-equal speaks of stripes::lists::is_within, which the judge of share files calls.
 -- Assumes nothing.
 use mathlib.Core.Path.{◌∙◌, sym}
 use Rattle.shares.proofs.code_in.Kinds as code-in-kinds

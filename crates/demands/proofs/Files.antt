@@ -1,5 +1,5 @@
 -- Our operations on share files and books meet demand 1: demand1-judge-file, demand1-take-slip, demand1-cut, demand1-answer-for.
---   below-says, stands-says, total-says, stripe-says      the tests of a share file and the words for them
+--   below-says, total-says, stripe-says      the tests of a share file and the words for them
 --   bears, file_node, file_stripes      what the judge names: the node and the stripe total that its promise cites
 --   judge-file-meets  and so does any judge that keeps our judge's promise
 --   file-tells        what an operation on a share file tells, by its own reasons after the file's

@@ -2,29 +2,48 @@
 // then lists that are refused. For each, a line with the slip count and the share, or the refusal's number.
 #![tactic(auto)]
 
-use codes::{Code, Node};
+use codes::{Code, MBR, Node};
 use field::Symbol;
+use std::fmt;
+use std::fmt::Write;
 use triples::{Helper, rebuild_from};
 
+// Standard output, through the kit's `io`.
+// Stays: each program has one for itself, since no library crate prints.
+#[derive(Clone, Copy)]
+struct Stdout;
+
+impl fmt::Write for Stdout {
+    fn write_str(&mut self, text: &str) -> fmt::Result {
+        if io::write_all(1, text.as_bytes()) {
+            Ok(())
+        } else {
+            Err(fmt::Error)
+        }
+    }
+}
+
 // A failed write is passed over.
-fn show(rt: &impl Print, label: &str, code: Code, helpers: [Helper; 3]) {
+fn show(out: &mut Stdout, label: &str, code: Code, helpers: [Helper; 3]) {
     let mut share = [0u8; 3];
     let answer = rebuild_from(code, Node(1), &helpers, &mut share);
     let [a, b, c] = share;
     let _ = match answer {
-        Ok(count) => println!(rt; "{label}: done {count}, share {a} {b} {c}"),
-        Err(refusal) => println!(rt; "{label}: refused {}, left {a} {b} {c}", refusal.number()),
+        Ok(count) => writeln!(out, "{label}: done {count}, share {a} {b} {c}"),
+        Err(refusal) => writeln!(
+            out,
+            "{label}: refused {}, left {a} {b} {c}",
+            refusal.number()
+        ),
     };
 }
 
 // A code of kind 1 with k = 2 and the points 1, 2, 3, 4; code A where n is 4 and d is 3.
 fn code(n: u8, d: u8) -> Code {
     let mut points = [Symbol::ZERO; 32];
-    for i in 0..4 {
-        points[i] = Symbol(i as u8 + 1);
-    }
+    points[..4].copy_from_slice(&[Symbol(1), Symbol(2), Symbol(3), Symbol(4)]);
     Code {
-        kind: 1,
+        kind: MBR,
         n,
         k: 2,
         d,
@@ -40,39 +59,40 @@ fn helper(node: u8, symbol: u8, count: u32) -> Helper {
     }
 }
 
-fn orders(rt: &impl Print) {
+fn orders(out: &mut Stdout) {
     let a = helper(2, 11, 9);
     let b = helper(3, 14, 9);
     let c = helper(4, 7, 9);
     let code = code(4, 3);
-    show(rt, "2 3 4", code, [a, b, c]);
-    show(rt, "2 4 3", code, [a, c, b]);
-    show(rt, "3 2 4", code, [b, a, c]);
-    show(rt, "3 4 2", code, [b, c, a]);
-    show(rt, "4 2 3", code, [c, a, b]);
-    show(rt, "4 3 2", code, [c, b, a]);
+    show(out, "2 3 4", code, [a, b, c]);
+    show(out, "2 4 3", code, [a, c, b]);
+    show(out, "3 2 4", code, [b, a, c]);
+    show(out, "3 4 2", code, [b, c, a]);
+    show(out, "4 2 3", code, [c, a, b]);
+    show(out, "4 3 2", code, [c, b, a]);
 }
 
-fn refusals(rt: &impl Print) {
+fn refusals(out: &mut Stdout) {
     let a = helper(2, 11, 9);
     let b = helper(3, 14, 9);
     let c = helper(4, 7, 9);
-    show(rt, "n = 33", code(33, 2), [a, a, a]);
+    show(out, "n = 33", code(33, 2), [a, a, a]);
     show(
-        rt,
+        out,
         "an unused point that is not zero",
         code(3, 2),
         [a, a, a],
     );
-    show(rt, "d = 2", code(4, 2), [a, b, c]);
-    show(rt, "node 0", code(4, 3), [a, b, helper(0, 7, 9)]);
-    show(rt, "node 5", code(4, 3), [a, b, helper(5, 7, 9)]);
-    show(rt, "node 2 twice", code(4, 3), [a, b, a]);
-    show(rt, "the failed node", code(4, 3), [a, b, helper(1, 7, 9)]);
-    show(rt, "another count", code(4, 3), [a, b, helper(4, 7, 8)]);
+    show(out, "d = 2", code(4, 2), [a, b, c]);
+    show(out, "node 0", code(4, 3), [a, b, helper(0, 7, 9)]);
+    show(out, "node 5", code(4, 3), [a, b, helper(5, 7, 9)]);
+    show(out, "node 2 twice", code(4, 3), [a, b, a]);
+    show(out, "the failed node", code(4, 3), [a, b, helper(1, 7, 9)]);
+    show(out, "another count", code(4, 3), [a, b, helper(4, 7, 8)]);
 }
 
-fn main(rt: HostRuntime) {
-    orders(&rt);
-    refusals(&rt);
+fn main() {
+    let mut out = Stdout;
+    orders(&mut out);
+    refusals(&mut out);
 }

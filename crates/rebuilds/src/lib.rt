@@ -13,6 +13,7 @@ pub mod points; // points.rt: the points of a list of nodes
 mod weigh; // weigh.rt: the weights of a plan
 
 // The weight of each helper's symbol (the row) in each byte of the rebuilt share (the column).
+// Stays: an array for the longest plan, since the library has no heap.
 pub type Plan = [[u8; 31]; 31];
 
 // The plan of a rebuild of the failed node by the helpers at nodes; zeros where d is more than 31.

@@ -6,6 +6,7 @@ ghost use Rattle.rebuilds.specs.Weights.{point_in, points_in};
 use field::Symbol;
 
 // The point of a node, whatever its number: node 0 reads the first place, and past the last place a point is 0.
+// Stays: beside `Code::point`, since docs/PROMISES.md and the theorem point-of-equal name it, of the points alone.
 pub fn point_of(points: [Symbol; 32], v: u8) -> u8
     ensures { result ≡ point_in points v }
 {

@@ -18,6 +18,7 @@ fn byte(s: &[u8], at: usize) -> u8
     s.get(at).copied().unwrap_or(0)
 }
 
+// Stays: two widths, here and below. Over a const width `from_fn` says nothing of what its closure holds, and the proof did not close.
 #[tactic(auto, unfolding(crate::specs::Numbers::number_at))]
 pub fn number2(s: &[u8], at: usize) -> u16
     ensures { result ≡ number_at 2 s.now at }

@@ -1,11 +1,11 @@
 -- The D records of a share file, as the judge goes through them.
 --   not-read, is_read     what a reading says of the test that a record stands there
 --   read-start, node-room, stripe-room     where the body of a record that was read stands
---   spare-from            the symbols past the first a
+--   spare-start, spare-next, spare-stop, spare-end            the symbols past the first a
 --   stripe-none, stripe-other, stripe-spare            a D record by its parts
 -- Assumes nothing.
 use mathlib.Core.Path.{◌≡◌, ◌∙◌, refl, sym, ap}
-use mathlib.Core.Bool.{Bool, true, false, not, ◌&&◌}
+use mathlib.Core.Bool.{Bool, true, false, not, ◌&&◌, or-true}
 use mathlib.Core.List.{List}
 use Prim.Native.Nat.{ℕ, ◌+◌, ◌-◌, ◌<◌, ◌≤◌}
 use native.Mathlib.Omega.{arith}
@@ -18,8 +18,7 @@ use Rattle.records.specs.Reading.{found, no_record, whole_as, answered, read_as}
 use Rattle.records.proofs.Whole.{body-holds, as-kind, as_read, read-inside}
 use Rattle.shares.specs.Fields.{stripe_at}
 use Rattle.shares.specs.File.{below, zero_past, spare, stripe_good}
-use Rattle.std.specs.List.{list_all, range_with_len}
-use Rattle.shares.proofs.Below.{below_each, below-from}
+use Rattle.shares.proofs.Below.{below_next, below_each, below-stop, below-fewer}
 
 -- ---- what was read
 
@@ -55,12 +54,19 @@ stripe-room s place start end next e = read-room s place 0x44 start end next e
 -- ---- the symbols past the first a
 
 module _ (a : ℕ) (s : List ℕ) (at : ℕ) where
-  spare-start : below a (zero_past a s at) ≡ true
+  pub spare-start : below a (zero_past a s at) ≡ true
   spare-start = below_each a (zero_past a s at) (λ j h. simp (lt-ltb j a h))
 
-  pub spare-from : list_all (λ (j : ℕ). eqb (get_or s (at + j) 0) 0) (range_with_len a (31 - a)) ≡ spare a s at
+  pub spare-next : (j : ℕ) → below j (zero_past a s at) ≡ true → get_or s (at + j) 0 ≡ 0 → below (j + 1) (zero_past a s at) ≡ true
+  spare-next j e h = below_next j (zero_past a s at) e (simp (eq-eqb _ _ h, or-true))
+
+  pub spare-stop : (j : ℕ) → a ≤ j → j < 31 → (get_or s (at + j) 0 ≡ 0 → ⊥) → false ≡ spare a s at
   unfolding spare
-  spare-from = below-from (zero_past a s at) (λ (j : ℕ). eqb (get_or s (at + j) 0) 0) a 31 spare-start (λ j l. simp (le-ltb j a l))
+  spare-stop j h l n = sym (below-stop 31 (zero_past a s at) j l (simp (le-ltb j a h, ne_eqb _ _ n)))
+
+  pub spare-end : (j : ℕ) → 31 ≤ j → below j (zero_past a s at) ≡ true → true ≡ spare a s at
+  unfolding spare
+  spare-end j h e = sym (below-fewer 31 j (zero_past a s at) h e)
 
 -- ---- a D record
 

@@ -7,62 +7,62 @@
 ghost use Rattle.std.specs.Prelude.{◌≤◌, length};
 
 use records::kinds::ANSWER;
-use std::io;
-use std::io::{Read, Write};
 
-// Reads until the buffer is full or the input ends, and answers how many bytes were read. A read that fails ends the input.
-fn fill(input: &mut impl Read, buffer: &mut [u8]) -> usize
-    ensures { result ≤ length buffer.old }
-{
-    let mut done = 0;
-    // Stays: a loop by hand, since std's readers do not say how many bytes came before the end.
-    while done < buffer.len() {
-        let n = input.read(&mut buffer[done..]).unwrap_or(0);
-        if n == 0 {
-            break;
-        }
-        done += n;
+// Standard input and standard output, as the system numbers them.
+// Stays: the kit's `io`, since std's streams reach the contract of the error number, and nothing new may be assumed.
+const STDIN: i32 = 0;
+
+const STDOUT: i32 = 1;
+
+// Nothing can be written any more.
+#[derive(Clone, Copy)]
+struct Closed;
+
+fn write(bytes: &[u8]) -> Result<(), Closed> {
+    if io::write_all(STDOUT, bytes) {
+        Ok(())
+    } else {
+        Err(Closed)
     }
-    done
 }
 
 // Reads, takes and answers one chunk of slips: 4,096 records. Says whether more may follow.
-fn turn(input: &mut impl Read, output: &mut impl Write, file: &mut [u8]) -> io::Result<bool> {
+fn turn(file: &mut [u8]) -> Result<bool, Closed> {
     let mut run = [0u8; 40960];
     let mut answers = [0u8; 8192];
-    let n = fill(input, &mut run);
+    let n = io::read_full(STDIN, &mut run);
     let walked = streams::take_run(file, &run[..n], &mut answers);
-    output.write_all(&answers[..walked.written])?;
+    write(&answers[..walked.written])?;
     Ok(!walked.ended && n == run.len())
 }
 
 // Takes chunk after chunk, then writes the file. A proved loop has to end, and nothing says that the input does: the turns are
 // counted, and no input uses up their number.
-fn walk(input: &mut impl Read, output: &mut impl Write, file: &mut [u8]) -> io::Result<()> {
+fn walk(file: &mut [u8]) -> Result<(), Closed> {
     for _ in 0..u64::MAX {
-        if !turn(input, output, file)? {
-            return output.write_all(file);
+        if !turn(file)? {
+            return write(file);
         }
     }
     Ok(())
 }
 
 // Reads the share file: 45 bytes, then what its N record says. A refused one is answered with that one record and nothing else.
-fn serve(input: &mut impl Read, output: &mut impl Write, file: &mut [u8]) -> io::Result<()>
+fn serve(file: &mut [u8]) -> Result<(), Closed>
     requires { 34861 ≤ length file.old }
 {
-    let head = fill(input, &mut file[..45]);
+    let head = io::read_full(STDIN, &mut file[..45]);
     let whole = streams::file_length(&file[..head]);
-    let all = head + fill(input, &mut file[head..whole]);
+    let all = head + io::read_full(STDIN, &mut file[head..whole]);
     let file = &mut file[..all];
     match streams::refusal_of(file) {
-        0 => walk(input, output, file),
-        refusal => output.write_all(&[ANSWER, refusal]),
+        0 => walk(file),
+        refusal => write(&[ANSWER, refusal]),
     }
 }
 
 // There is room for the longest share file.
-fn main(rt: HostRuntime) {
+fn main() {
     let mut file = [0u8; 34861];
-    let _ = serve(&mut rt.stdin(), &mut rt.stdout(), &mut file);
+    let _ = serve(&mut file);
 }

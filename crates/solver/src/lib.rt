@@ -14,6 +14,7 @@ ghost use Rattle.solver.specs.Passes.{Moves};
 use field::Products;
 
 // Round u of the forward pass.
+// Stays: the row, the points and the table as parameters. A struct of them would lend the row for writing and say one equation of lengths.
 fn forward_round(a: &mut [u8], xs: &[u8], u: usize, t: &Products)
     requires { (length a.old ≡ length xs.now) × (u < length xs.now) }
     ensures { let s = length xs.now in Moves (Forward s u (at xs.now)) (Forward s (u + 1) (at xs.now)) a.old a.new }

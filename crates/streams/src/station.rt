@@ -39,6 +39,7 @@ pub struct Station<W: Weighs> {
 }
 
 // The byte at a place; 0 past the end.
+// Stays: one line, beside the like in `records`, which is private there.
 fn byte_at(s: &[u8], at: usize) -> u8
     ensures { result ≡ get_or s.now at 0 }
 {
@@ -97,6 +98,7 @@ impl<W: Weighs> Station<W> {
     }
 
     // The slip's own faults. The count's last number has no next one.
+    // Stays: `Ready` as a clause of three methods. It ties the station to a file that is lent for each slip, so no field can hold it.
     fn judge(&self, file: &[u8], slip: &[u8]) -> Result<(), Refusal>
         requires { Ready file.now self.now.code self.now.node.0 }
         ensures { say_judged result ≡ answered (slip_faults file.now slip.now) (pair_in (code_in file.now)) 0 }

@@ -59,7 +59,7 @@ impl Weighs for Weights {
 }
 
 // The first 31 powers of a point.
-// Stays: beside the row of `stripes`, which is of a code and a node, and of bytes.
+// Stays: beside the row of `stripes`: symbols here, bytes there, and a public function for both would be no plainer.
 fn powers_of(x: Symbol) -> [Symbol; 31]
     ensures { Powers x.0 result }
 {

@@ -10,7 +10,7 @@ use codes::{Code, Node, Refusal, judge};
 use field::{Products, Symbol};
 
 pub mod lists; // lists.rt: tests over lent lists of nodes and of counts
-mod places; // places.rt: where a message's symbol stands in the message matrix
+mod places; // places.rt: where an entry of the message matrix stands in the message
 mod products; // products.rt: a product by a lent table
 mod room; // room.rt: the work room, the message matrix, and row times matrix
 mod rows; // rows.rt: a node's encoding row, and a helper's symbol by it

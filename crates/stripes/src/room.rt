@@ -11,6 +11,7 @@ use crate::shape::Shape;
 use field::Symbol;
 
 // The message in the work room, which starts as 496 zeros.
+// Stays: arrays for the longest message and matrix, by value and by index, forms that document 01 names.
 fn room_of(message: &[u8]) -> [Symbol; 496]
     requires { length message.now ≤ 496 }
     ensures { Held message.now result }

@@ -6,28 +6,48 @@
 
 use records::reading::{Found, NoRecord, body};
 use records::writing::put;
+use std::fmt;
+use std::fmt::Write;
 use std::ops::Range;
 
+// Standard output, through the kit's `io`.
+// Stays: each program has one for itself, since no library crate prints.
+#[derive(Clone, Copy)]
+struct Stdout;
+
+impl fmt::Write for Stdout {
+    fn write_str(&mut self, text: &str) -> fmt::Result {
+        if io::write_all(1, text.as_bytes()) {
+            Ok(())
+        } else {
+            Err(fmt::Error)
+        }
+    }
+}
+
 // One record, which stands at a place: its kind byte is the one there. The next place is given back.
-fn show(rt: &impl Print, file: &[u8], n: usize, place: usize) -> usize {
+fn show(out: &mut Stdout, file: &[u8], n: usize, place: usize) -> usize {
     match readers::read_nth(file, n) {
         Ok(Found { start, end, next }) => {
             let kind = char::from(file.get(place).copied().unwrap_or(0));
-            let _ = println!(rt; "record {n}: kind {kind}, start {start}, end {end}, next {next}");
+            let _ = writeln!(
+                out,
+                "record {n}: kind {kind}, start {start}, end {end}, next {next}"
+            );
             next
         }
         Err(NoRecord { place }) => {
-            let _ = println!(rt; "record {n}: refused at {place}");
+            let _ = writeln!(out, "record {n}: refused at {place}");
             place
         }
     }
 }
 
 // The records with those numbers, the first of which stands at a place. The place after the last is given back.
-fn show_all(rt: &impl Print, file: &[u8], numbers: Range<usize>, start: usize) -> usize {
+fn show_all(out: &mut Stdout, file: &[u8], numbers: Range<usize>, start: usize) -> usize {
     let mut place = start;
     for n in numbers {
-        place = show(rt, file, n, place);
+        place = show(out, file, n, place);
     }
     place
 }
@@ -41,27 +61,28 @@ fn worked() -> [u8; 79] {
     file
 }
 
-fn whole(rt: &impl Print) {
+fn whole(out: &mut Stdout) {
     let file = worked();
-    let end = show_all(rt, &file, 0..4, 0);
-    show(rt, &file, usize::MAX, end);
+    let end = show_all(out, &file, 0..4, 0);
+    show(out, &file, usize::MAX, end);
 }
 
-fn cut(rt: &impl Print) {
-    let _ = println!(rt; "cut by one byte");
+fn cut(out: &mut Stdout) {
+    let _ = writeln!(out, "cut by one byte");
     let file = worked();
-    show_all(rt, body(&file, 0, 78), 1..4, 37);
+    show_all(out, body(&file, 0, 78), 1..4, 37);
 }
 
-fn other_kind(rt: &impl Print) {
-    let _ = println!(rt; "the second kind byte another");
+fn other_kind(out: &mut Stdout) {
+    let _ = writeln!(out, "the second kind byte another");
     let mut file = worked();
     file[37] = 79;
-    show_all(rt, &file, 0..3, 0);
+    show_all(out, &file, 0..3, 0);
 }
 
-fn main(rt: HostRuntime) {
-    whole(&rt);
-    cut(&rt);
-    other_kind(&rt);
+fn main() {
+    let mut out = Stdout;
+    whole(&mut out);
+    cut(&mut out);
+    other_kind(&mut out);
 }

@@ -1,3 +1,5 @@
+-- `lists::repeats` meets its contract: some node is one of those after it.
+-- Assumes nothing.
 use mathlib.Core.Path.{◌∙◌, refl}
 use Prim.Native.Nat.{ℕ, ◌+◌}
 use borrow.Author.Rules.{rules}
