@@ -1,5 +1,5 @@
 // Collecting a stripe: the matrix from any k shares, and the message read off it. What depends only on the points is made once.
-ghost use Rattle.std.specs.Prelude.{◌≡◌, ◌+◌, ◌*◌, ◌≤◌, ◌<◌, length};
+ghost use Rattle.std.specs.Prelude.{◌≡◌, ◌+◌, ◌*◌, ◌≤◌, length};
 ghost use Rattle.algebra.specs.Symbol.{symbol, pow};
 ghost use Rattle.algebra.specs.Sums.{Same};
 ghost use Rattle.algebra.specs.Bytes.{at, table};

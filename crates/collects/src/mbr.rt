@@ -1,5 +1,5 @@
 // Collecting kind 1: T from the columns of the shares past k, then S from the others less what T gives there.
-ghost use Rattle.std.specs.Prelude.{◌≡◌, ◌≤◌};
+ghost use Rattle.std.specs.Prelude.{◌≤◌};
 ghost use Rattle.algebra.specs.Symbol.{◌⊕◌};
 ghost use Rattle.algebra.specs.Sums.{Same, dot};
 ghost use Rattle.algebra.specs.Bytes.{at};

@@ -1,5 +1,5 @@
 // Squares of 31 by 31 bytes: rows, columns and their products by the lent products, which are made once for a stripe.
-ghost use Rattle.std.specs.Prelude.{◌≡◌, ℕ, ◌+◌, ◌≤◌, ◌<◌, get_or, length};
+ghost use Rattle.std.specs.Prelude.{◌≡◌, ℕ, ◌+◌, ◌≤◌, ◌<◌, get_or};
 ghost use Rattle.algebra.specs.Symbol.{symbol, 𝟘};
 ghost use Rattle.algebra.specs.Sums.{Same, pick, dot, flip};
 ghost use Rattle.algebra.specs.Bytes.{at};

@@ -19,10 +19,7 @@ use Rattle.codes.specs.declared.Refusal.TheVariants.{Length}
 use Rattle.codes.proofs.Told.{answered-hand-on, done-clear, clear-done}
 use Rattle.stripes.specs.Help as stripe
 use Rattle.stripes.proofs.Ladder.{judged-refused, judged-stop, refused-leaves, done-leaves}
-use Rattle.corkpaddle.specs.Boundary.{Says}
 use Rattle.corkpaddle.specs.Help.{help_reasons, help_told, help_leaves}
-use Rattle.corkpaddle.specs.declared.Answer.{Answer}
-use Rattle.corkpaddle.proofs.Coded.{says}
 
 set-only : (o : List ℕ) (x : ℕ) → length o ≡ 1 → set o 0 x ≡ x ∷ []
 set-only [] x e = absurd (omega arith)
@@ -30,10 +27,9 @@ set-only (y ∷ []) x e = refl
 set-only (y ∷ z ∷ o) x e = absurd (omega arith)
 
 module _ (c : Code) (h f : ℕ) (s o : List ℕ) where
-  pub unchanged : (r : Refusal) {a : Answer} → refused r ≡ help_told c h f s o → Says a (refused r)
-      → Says a (help_told c h f s o) × (o ≡ help_leaves c h f s o)
+  pub unchanged : (r : Refusal) → refused r ≡ help_told c h f s o → o ≡ help_leaves c h f s o
   unfolding help_told help_leaves
-  unchanged r e a = (says e a, refused-leaves (help_reasons c h f s o) (pair_in c) 0 ((symbol_for c f s).val ∷ []) o r e)
+  unchanged r e = refused-leaves (help_reasons c h f s o) (pair_in c) 0 ((symbol_for c f s).val ∷ []) o r e
 
   pub no_code : (r : Refusal) → refused r ≡ judged c → refused r ≡ help_told c h f s o
   unfolding help_told help_reasons
@@ -70,10 +66,10 @@ module _ (c : Code) (h f : ℕ) (s o : List ℕ) where
           sym (clear-done (stripe.help_reasons c h f s) (pair_in c) 0 none-holds)
           ∙ ap (λ (q : List Reason). answered q (pair_in c) 0) reasons
 
-      pub helps : {a : Answer} → Says a (done 0) → Says a (help_told c h f s o) × (set o 0 x ≡ help_leaves c h f s o)
+      pub helps : (done 0 ≡ help_told c h f s o) × (set o 0 x ≡ help_leaves c h f s o)
       unfolding help_told help_leaves
-      helps a = (
-        says done-told a,
+      helps = (
+        done-told,
         set-only o x l ∙ ap (λ (y : ℕ). y ∷ []) symbol-told
             ∙ done-leaves (help_reasons c h f s o) (pair_in c) 0 ((symbol_for c f s).val ∷ []) o 0 done-told,
       )

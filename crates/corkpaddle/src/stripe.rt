@@ -63,7 +63,7 @@ pub fn corkpaddle_help(
     let Some(code) = code_of(code) else {
         return refused(Refusal::Length);
     };
-    help_into(code, Node(helper), Node(failed), share, output)
+    crossing(help_into(code, Node(helper), Node(failed), share, output))
 }
 
 // The share of a failed node from its helpers' nodes, symbols and slip counts, which stand in one order; the helpers' count.

@@ -1,5 +1,5 @@
 // The points of a list of nodes: what a rebuild and a collection solve by.
-ghost use Rattle.std.specs.Prelude.{◌≡◌, get_or};
+ghost use Rattle.std.specs.Prelude.{◌≡◌};
 ghost use Rattle.algebra.specs.Bytes.{table};
 ghost use Rattle.rebuilds.specs.Weights.{point_in, points_in};
 

@@ -5,12 +5,11 @@
 --   stripe-none, stripe-other, stripe-spare            a D record by its parts
 -- Assumes nothing.
 use mathlib.Core.Path.{◌≡◌, ◌∙◌, refl, sym, ap}
-use mathlib.Core.Bool.{Bool, true, false, not, ◌&&◌, or-true}
+use mathlib.Core.Bool.{Bool, true, false, ◌&&◌, or-true}
 use mathlib.Core.List.{List}
-use Prim.Native.Nat.{ℕ, ◌+◌, ◌-◌, ◌<◌, ◌≤◌}
+use Prim.Native.Nat.{ℕ, ◌+◌, ◌<◌, ◌≤◌}
 use native.Mathlib.Omega.{arith}
 use borrow.Author.Tests.{lt-ltb, le-ltb, eq-eqb, ne_eqb}
-use lib.Dec.{eqb}
 use lib.ListN.{length, get_or}
 use Rattle.records.specs.Kinds.{body_of}
 use Rattle.records.specs.Numbers.{number_at}

@@ -1,6 +1,6 @@
 // The records of share files and of helpers' answers, as bytes.
-ghost use Rattle.std.specs.Prelude.{◌≡◌, map, take};
-ghost use Rattle.shares.specs.Fields.{code_record, node_record, stripe_record, help_record, number_of};
+ghost use Rattle.std.specs.Prelude.{◌≡◌, take};
+ghost use Rattle.shares.specs.Fields.{code_record, node_record, stripe_record, help_record};
 
 use codes::{Code, Node};
 use field::Symbol;

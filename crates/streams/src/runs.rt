@@ -1,5 +1,5 @@
 // A run of slip records, taken one after the other in a file that was judged before.
-ghost use Rattle.std.specs.Prelude.{◌≡◌, ◌*◌, ◌≤◌, length};
+ghost use Rattle.std.specs.Prelude.{◌*◌, ◌≤◌, length};
 ghost use Rattle.streams.specs.Stream.{begun, Walks, Took};
 
 use crate::heads::number_told;

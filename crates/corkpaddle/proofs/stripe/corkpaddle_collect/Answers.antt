@@ -1,5 +1,4 @@
 -- `corkpaddle::stripe::corkpaddle_collect` meets its contract: a code run of another length is refused; any other goes on to `collects::collect`, which tells the shares' count and leaves the message stripe.
-use mathlib.Core.Path.{◌∙◌, sym}
 use Rattle.codes.specs.declared.Code.{Code}
 use Rattle.collects.specs.Collect.{collect_told, collect_leaves}
 use Rattle.corkpaddle.proofs.Coded.{stopped, as_was, goes_on}

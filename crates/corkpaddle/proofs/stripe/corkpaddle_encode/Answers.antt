@@ -1,5 +1,4 @@
 -- `corkpaddle::stripe::corkpaddle_encode` meets its contract: a code run of another length is refused; any other goes on to `stripes::encode`, which tells no count and leaves the share.
-use mathlib.Core.Path.{◌∙◌, sym}
 use Rattle.codes.specs.declared.Code.{Code}
 use Rattle.stripes.specs.Encode.{encoded, encode_leaves}
 use Rattle.corkpaddle.proofs.Coded.{stopped, as_was, goes_on}

@@ -1,5 +1,4 @@
 -- `corkpaddle::stripe::corkpaddle_help` meets its contract: a code run of another length is refused; any other goes on to `help_into`, which tells no count and leaves the helper's symbol.
-use mathlib.Core.Path.{◌∙◌, refl, sym}
 use Rattle.codes.specs.declared.Code.{Code}
 use Rattle.corkpaddle.specs.Help.{help_told, help_leaves}
 use Rattle.corkpaddle.proofs.Coded.{stopped, as_was, goes_on}
@@ -16,5 +15,5 @@ returns c =
     let p = goes_on _ c.in-Some.ensures.some.0
     (λ (k : Code). help_told k s.helper s.failed s.share.now s.output.now)
     (λ (k : Code). help_leaves k s.helper s.failed s.share.now s.output.now) _
-    c.in-Some.ensures.some.1 refl c.help_into.ensures.written c.help_into.ensures.answer
+    c.in-Some.ensures.some.1 c.help_into.ensures.answer c.help_into.ensures.written c.crossing.ensures
     in record { answer = p.0; written = p.1 }

@@ -1,5 +1,5 @@
 -- `corkpaddle::stripe::corkpaddle_judge` meets its contract: a run of another length is refused, and any other is told as `codes::judge` tells it.
-use mathlib.Core.Path.{◌∙◌, sym, ap}
+use mathlib.Core.Path.{◌∙◌, ap}
 use Rattle.codes.specs.Judge.{judged}
 use Rattle.corkpaddle.proofs.Coded.{stopped, passed}
 use Rattle.corkpaddle.proofs.stripe.corkpaddle_judge.Goals as goal

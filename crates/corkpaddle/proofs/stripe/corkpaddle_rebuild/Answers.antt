@@ -1,5 +1,4 @@
 -- `corkpaddle::stripe::corkpaddle_rebuild` meets its contract: a code run of another length is refused; any other goes on to `rebuilds::rebuild`, which tells the helpers' count and leaves the failed node's share.
-use mathlib.Core.Path.{◌∙◌, sym}
 use Rattle.codes.specs.declared.Code.{Code}
 use Rattle.rebuilds.specs.Rebuild.{rebuild_told, rebuild_leaves}
 use Rattle.corkpaddle.proofs.Coded.{stopped, as_was, goes_on}

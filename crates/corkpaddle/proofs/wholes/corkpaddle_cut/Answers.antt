@@ -1,5 +1,4 @@
 -- `corkpaddle::wholes::corkpaddle_cut` meets its contract: a code run of another length is refused for it or for the stripe total; any other goes on to `books::cut`, which tells no count and leaves the fresh share file.
-use mathlib.Core.Path.{◌∙◌, sym}
 use Rattle.codes.specs.declared.Code.{Code}
 use Rattle.books.specs.Cut.{cut_told, cut_leaves}
 use Rattle.corkpaddle.proofs.Coded.{as_was, goes_on}

@@ -1,5 +1,4 @@
 -- `corkpaddle::wholes::corkpaddle_rebuild_batch` meets its contract: a code run of another length is refused; any other goes on to `batches::rebuild_batch`, which tells the helpers' count and leaves the D record.
-use mathlib.Core.Path.{◌∙◌, sym}
 use Rattle.codes.specs.declared.Code.{Code}
 use Rattle.batches.specs.Batch.{batch_told, batch_leaves}
 use Rattle.corkpaddle.proofs.Coded.{stopped, as_was, goes_on}

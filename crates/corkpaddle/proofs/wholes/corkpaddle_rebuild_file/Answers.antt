@@ -1,5 +1,4 @@
 -- `corkpaddle::wholes::corkpaddle_rebuild_file` meets its contract: a code run of another length is refused for it or for the stripe total; any other goes on to `batches::rebuild_file`, which tells the helpers' count and leaves the rebuilt share file.
-use mathlib.Core.Path.{◌∙◌, sym}
 use Rattle.codes.specs.declared.Code.{Code}
 use Rattle.batches.specs.Whole.{whole_told, whole_leaves}
 use Rattle.corkpaddle.proofs.Coded.{as_was, goes_on}
