@@ -65,6 +65,7 @@ impl Batch<'_> {
         ensures { take self.now.code.code.d result ≡ list_of self.now.code.code.d (field_of at self.now.bytes.now) }
     {
         let mut column = [0; 31];
+        // Stays: a loop over places, since the place is what `byte` is asked.
         for r in 0..self.d() {
             column[r] = self.byte(r, at);
         }

@@ -4,7 +4,7 @@ use std::fmt;
 use std::fmt::Write;
 
 // Standard output, through the kit's `io`.
-// Stays: each program has one for itself, since no library crate prints.
+// Stays: in each program, since a crate more for twelve lines would be no plainer.
 #[derive(Clone, Copy)]
 pub struct Stdout;
 

@@ -7,6 +7,7 @@ use field::Symbol;
 use std::array;
 
 // The byte that stands i after a place.
+// Stays: beside the like in `records`, since neither crate stands on the other.
 fn byte_after(s: &[u8], at: usize, i: usize) -> u8
     ensures { result ≡ get_or s.now (at + i) 0 }
 {

@@ -48,7 +48,7 @@ fn first_pair(m: &[u8; 32], n: usize) -> Option<(usize, usize)>
 }
 
 // The first place from n on whose point is not zero.
-// Stays: a loop over places. `position` would count from n, and each answer would have to be moved back.
+// Stays: a loop over places. By `find` over them the promise was left open.
 #[tactic(auto, using(crate::proofs::First::searches), unfolding(crate::specs::Judge::unused_at))]
 fn first_unused(points: &[Symbol; 32], n: usize) -> Option<usize>
     requires { n ≤ 32 }

@@ -28,6 +28,7 @@ fn others(xs: Row, u: usize, w: usize) -> Row
     row(w, |i| xs[skip(u, i)])
 }
 
+// Stays: squares and sizes as parameters, here and below; each step takes others of them.
 // Row u of Q, without its entry u. R stands in r, and the factor of each row at place w of its powers.
 fn part_q(r: &Square, rows: &Square, u: usize, w: usize, t: &Products) -> Row
     requires { (u ≤ w) × (w < 31) }

@@ -9,7 +9,7 @@ use field::{Products, Symbol};
 
 pub type Row = [u8; 31];
 
-// Stays: sizes beside an array. One square is read at several sizes, and by rows from a place on.
+// Stays: sizes beside an array, each at most 31 in the clauses, since the library has no heap; one square is read at several sizes.
 pub type Square = [Row; 31];
 
 // The byte in row i and column j.
@@ -34,6 +34,7 @@ pub fn dot(u: &Row, v: &Row, n: usize, t: &Products) -> u8
 }
 
 // The row of what f gives at each of the first n places.
+// Stays: a loop over places, since the place is what f is asked.
 pub fn row<F: Fn(usize) -> u8>(n: usize, f: F) -> Row
     requires fits { n ≤ 31 }
     requires callable { (i : ℕ) → i < n → F.pre f i }

@@ -7,6 +7,7 @@ use crate::Symbol;
 use crate::antilogs::POWERS;
 use crate::logs::LOGS;
 
+// Stays: the byte against 0, since it is the byte that is looked up next; a comparison of symbols is no plainer.
 impl Symbol {
     // The product as a lent table has it; by `tables()` it is `times`.
     // Stays: beside `times`, as `over_by` beside `over`. Each is public with a promise of its own, and only the test for 0 is the same.

@@ -6,6 +6,7 @@ use crate::Symbol;
 use crate::antilogs::antilog;
 use crate::logs::log;
 
+// Stays: the byte against 0, since it is the byte that is looked up next; a comparison of symbols is no plainer.
 impl Symbol {
     #[tactic(auto, using(crate::proofs::Lookup::by_logarithms))]
     pub fn times(self, b: Symbol) -> Symbol

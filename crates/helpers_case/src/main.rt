@@ -9,7 +9,7 @@ use std::fmt::Write;
 use triples::{Helper, rebuild_from};
 
 // Standard output, through the kit's `io`.
-// Stays: each program has one for itself, since no library crate prints.
+// Stays: in each program, since a crate more for twelve lines would be no plainer.
 #[derive(Clone, Copy)]
 struct Stdout;
 

@@ -1,5 +1,5 @@
 // The static library for the comparison: one export for each function of `probe`, with its clause.
-// Stays: each export repeats its function, since C needs a name of its own for each.
+// Stays: each export repeats its function, since a crate is a library for Rattle or one for C, and not both.
 #![tactic(auto)]
 
 ghost use Rattle.std.specs.Prelude.{◌≡◌};

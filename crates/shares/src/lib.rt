@@ -11,7 +11,7 @@ mod totals; // totals.rt: stripe totals, and a code judged together with one
 mod writing; // writing.rt: C, N, D and H records as bytes
 
 pub use judging::{code_in, judge_file};
-pub use places::stripe_at;
+pub use places::{COUNT_AT, TOTAL_AT, stripe_at};
 pub use totals::{is_total, judge_total};
 pub use writing::{code_record, help_record, node_record, stripe_record};
 

@@ -5,16 +5,15 @@ ghost use Rattle.codes.specs.Told.{say};
 ghost use Rattle.shares.specs.File.{file_told};
 ghost use Rattle.streams.specs.Length.{file_length};
 
-use crate::station::TOTAL;
 use codes::Refusal;
 use records::numbers::number2;
-use shares::{is_total, judge_file, stripe_at};
+use shares::{TOTAL_AT, is_total, judge_file, stripe_at};
 
 // The length of the share file that begins with these bytes.
 pub fn file_length(head: &[u8]) -> usize
     ensures { (result ≡ file_length head.now) × (45 ≤ result) × (result ≤ 34861) }
 {
-    let total = number2(head, TOTAL);
+    let total = number2(head, TOTAL_AT);
     if head.len() >= 45 && is_total(total as u32) {
         stripe_at(total)
     } else {

@@ -23,6 +23,7 @@ fn take_all(file: &mut [u8], run: &[u8], answers: &mut [u8]) -> Walked
     ensures { Walks file.old run.now answers.old result.written result.ended file.new answers.new }
 {
     let station = Station::<Weights>::of(file);
+    // Stays: `written` counted by hand, since it is the answer.
     let mut written: usize = 0;
     for slip in run.chunks(10) {
         let taken = station.take(file, slip);

@@ -17,14 +17,10 @@ use codes::{Code, Node, Refusal};
 use records::kinds::SLIP;
 use records::numbers::{bytes4, number2, number4};
 use records::writing::put;
-use shares::{code_in, stripe_at};
+use shares::{COUNT_AT, TOTAL_AT, code_in, stripe_at};
 
-// Places in a share file: the node, the stripe total and the slip count.
+// Where the node stands in a share file.
 const NODE: usize = 38;
-
-pub const TOTAL: usize = 39;
-
-const COUNT: usize = 41;
 
 // What a slip's change needs of the file's code and node: it is the same for every slip of the file.
 #[derive(Drop)]
@@ -106,10 +102,10 @@ impl<W: Weighs> Station<W> {
         if slip.len() != 10 || slip[0] != SLIP {
             return Err(Refusal::Record);
         }
-        if number4(file, COUNT).checked_add(1) != Some(number4(slip, 1)) {
+        if number4(file, COUNT_AT).checked_add(1) != Some(number4(slip, 1)) {
             return Err(Refusal::Order);
         }
-        if number2(slip, 5) >= number2(file, TOTAL) || number2(slip, 7) as usize >= self.size {
+        if number2(slip, 5) >= number2(file, TOTAL_AT) || number2(slip, 7) as usize >= self.size {
             return Err(Refusal::Place);
         }
         Ok(())
@@ -122,8 +118,8 @@ impl<W: Weighs> Station<W> {
         ensures left { file.new ≡ taken_in file.old slip.now }
     {
         let at = stripe_at(number2(slip, 5)) + 3;
-        let count = number4(file, COUNT) + 1;
-        put(file, COUNT, &bytes4(count));
+        let count = number4(file, COUNT_AT) + 1;
+        put(file, COUNT_AT, &bytes4(count));
         self.change_share(file, at, number2(slip, 7), byte_at(slip, 9));
         count
     }

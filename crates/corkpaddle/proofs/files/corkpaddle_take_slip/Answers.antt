@@ -1,4 +1,4 @@
--- `corkpaddle::files::corkpaddle_take_slip` meets its contract: the answer to a slip, as it crosses, says what is told, and the file is left as `shares::take_slip` leaves it.
+-- `corkpaddle::files::corkpaddle_take_slip` meets its contract: the answer to a slip, as it crosses, says what is told, and the file is left as `streams::take_slip` leaves it.
 use Rattle.corkpaddle.proofs.Coded.{says}
 use Rattle.corkpaddle.proofs.files.corkpaddle_take_slip.Goals as goal
 
