@@ -19,6 +19,8 @@ use Rattle.field.proofs.Symbol.times_by.Kinds as times-by-kinds
 use Rattle.field.proofs.Symbol.times_by.Reads as times-by-reads
 use Rattle.field.proofs.Symbol.over_by.Kinds as over-by-kinds
 use Rattle.field.proofs.Symbol.over_by.Reads as over-by-reads
+use Rattle.field.proofs.Products.new.Kinds as products-new-kinds
+use Rattle.field.proofs.Products.new.Reads as products-new-reads
 use Rattle.field.proofs.Products.times.Kinds as products-times-kinds
 use Rattle.field.proofs.Products.times.Reads as products-times-reads
 use Rattle.field.proofs.Products.over.Kinds as products-over-kinds
@@ -28,7 +30,7 @@ use Rattle.field.proofs.Products.raised.Reads as products-raised-reads
 use Rattle.field.proofs.Products.slope.Kinds as products-slope-kinds
 use Rattle.field.proofs.Products.slope.Reads as products-slope-reads
 use Rattle.demands.specs.Equal.{Equal}
-use Rattle.demands.proofs.Only.{symbol-only}
+use Rattle.demands.proofs.Only.{products-only, symbol-only}
 
 pub of-equal : Equal 0 of-kinds.ps of-kinds.r of-reads.Post
 of-equal κs a x y s t p q = symbol-only x y (p ∙ sym q)
@@ -58,6 +60,9 @@ pub over-by-equal : Equal 1 over-by-kinds.ps over-by-kinds.r over-by-reads.Post
 over-by-equal κs a x y s t p q = symbol-only x y (p ∙ sym q)
 
 -- ---- the right table
+
+pub products-new-equal : Equal 0 products-new-kinds.ps products-new-kinds.r products-new-reads.Post
+products-new-equal κs a x y s t p q = products-only x y
 
 pub products-times-equal : Equal 1 products-times-kinds.ps products-times-kinds.r products-times-reads.Post
 products-times-equal κs a x y s t p q = symbol-only x y (p ∙ sym q)

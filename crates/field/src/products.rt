@@ -12,7 +12,9 @@ pub struct Products {
 }
 
 impl Products {
-    pub fn new() -> Products {
+    pub fn new() -> Products
+        ensures { result.bytes ≡ tables }
+    {
         Products {
             bytes: lent::tables(),
         }
