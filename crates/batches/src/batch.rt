@@ -5,7 +5,7 @@ ghost use Rattle.codes.specs.Judge.{pair_in, say_judged};
 ghost use Rattle.rebuilds.specs.Rebuild.{say_counted};
 ghost use Rattle.batches.specs.Batch.{batch_reasons, batch_told, batch_leaves};
 
-use crate::columns::Batch;
+use crate::reading::Batch;
 use codes::{Code, Node, Refusal, judge};
 use field::Products;
 

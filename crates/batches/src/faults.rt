@@ -6,7 +6,7 @@ ghost use Rattle.shares.specs.File.{below};
 ghost use Rattle.batches.specs.Batch.{help_kind, faults, noded, repeated};
 ghost use Rattle.batches.specs.Tests.{alike};
 
-use crate::columns::{Batch, FAILED, HELPER, KIND};
+use crate::reading::{Batch, FAILED, HELPER, KIND};
 use codes::{Node, Refusal};
 use records::kinds::HELP;
 use stripes::lists::{has, is_within, repeats};

@@ -3,9 +3,9 @@
 // Nothing is written before every batch has been judged.
 #![tactic(auto)]
 
-mod batch; // batch.rt: one batch
-mod columns; // columns.rt: a batch, and what its records say
+mod batch; // batch.rt: one stripe rebuilt from one batch
 mod faults; // faults.rt: what is wrong with one batch
+mod reading; // reading.rt: a batch, and what its records say
 mod stripe; // stripe.rt: the D record that a batch gives
 mod whole; // whole.rt: a whole file from a batch for each stripe
 

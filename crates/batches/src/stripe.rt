@@ -4,7 +4,7 @@ ghost use Rattle.records.specs.Writing.{put_at};
 ghost use Rattle.rebuilds.specs.Plan.{plan_of};
 ghost use Rattle.batches.specs.Batch.{helpers_in, rebuilt_record};
 
-use crate::columns::{Batch, SYMBOL};
+use crate::reading::{Batch, SYMBOL};
 use field::Products;
 use rebuilds::{Plan, rebuild_by};
 use records::writing::put;

@@ -8,7 +8,7 @@ ghost use Rattle.shares.specs.Fields.{stripe_at};
 ghost use Rattle.batches.specs.Batch.{count_at};
 ghost use Rattle.batches.specs.Whole.{batch_of, faults_from, records_from, whole_reasons, whole_told, whole_leaves};
 
-use crate::columns::{Batch, COUNT, HELPER};
+use crate::reading::{Batch, COUNT, HELPER};
 use codes::{Accepted, Code, Node, Refusal};
 use field::Products;
 use records::numbers::number4;

@@ -1,4 +1,5 @@
-// The program's core: a share file at the start of a stream, and the run of slip records that follows it.
+// Slips taken in share files: one by itself, or a run of them. With it the program's core: a share file at the start of a stream,
+// and the run of slip records that follows it.
 //
 // Every function works on lent runs of bytes and answers every run. Reading and writing are the program's matter.
 #![tactic(auto)]

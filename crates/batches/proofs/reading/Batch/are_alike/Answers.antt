@@ -1,16 +1,16 @@
--- `columns::Batch::are_noded` meets its contract: `all` over the records' numbers.
+-- `reading::Batch::are_alike` meets its contract: `all` over the records' numbers.
 -- Assumes nothing.
 use Rattle.std.proofs.Common.{ℕ, Bool, ◌∙◌, ◌-◌, refl, rules, tests}
 use Rattle.std.proofs.lemmas.Iterator.{YieldsList-from_range}
 use Rattle.std.proofs.lemmas.Iterator.Search.{all_from_yields_List}
 use Rattle.shares.proofs.Below.{below-all}
-use Rattle.batches.specs.Batch.{noded}
-use Rattle.batches.proofs.columns.Batch.are_noded.Goals as goal
+use Rattle.batches.specs.Tests.{alike}
+use Rattle.batches.proofs.reading.Batch.are_alike.Goals as goal
 
 pub returns : goal.returns
 returns c =
     let b = c.args.self.now in
     let d = b.code.code.d in
-    let p : ℕ → Bool = noded b.code.code b.bytes.now in
+    let p : ℕ → Bool = alike c.args.asked.0 b.bytes.now in
     all_from_yields_List p _ _ _ c.all.ensures.ran (YieldsList-from_range 0 d (d - 0) (cc) refl) (λ x b q k. search (rules, tests))
     ∙ below-all p d

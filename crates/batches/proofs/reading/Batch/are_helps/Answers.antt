@@ -1,11 +1,11 @@
--- `columns::Batch::are_helps` meets its contract: `all` over the records' numbers.
+-- `reading::Batch::are_helps` meets its contract: `all` over the records' numbers.
 -- Assumes nothing.
 use Rattle.std.proofs.Common.{ℕ, Bool, ◌∙◌, ◌-◌, eqb, refl, rules, tests}
 use Rattle.std.proofs.lemmas.Iterator.{YieldsList-from_range}
 use Rattle.std.proofs.lemmas.Iterator.Search.{all_from_yields_List}
 use Rattle.shares.proofs.Below.{below-all}
 use Rattle.batches.specs.Batch.{help_kind}
-use Rattle.batches.proofs.columns.Batch.are_helps.Goals as goal
+use Rattle.batches.proofs.reading.Batch.are_helps.Goals as goal
 
 pub returns : goal.returns
 returns c =

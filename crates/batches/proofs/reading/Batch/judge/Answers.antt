@@ -1,8 +1,8 @@
--- `columns::Batch::judge` meets its contract: each answer stands for the first of the reasons that holds.
+-- `reading::Batch::judge` meets its contract: each answer stands for the first of the reasons that holds.
 -- Assumes nothing.
 use Rattle.batches.proofs.Judging.{at-kind, at-asked, at-node, at-repeat, at-alike, at_other, at_place, at_none}
-use Rattle.batches.proofs.columns.Batch.judge.Goals as goal
-use Rattle.batches.proofs.columns.Batch.judge.Goals.{then-not-is_within-via-then-not-is_within, then-not-is_within-via-else-not-is_within+then-not-are_noded, then-not-are_alike-via-then-not-are_alike, then-not-are_alike-via-else-not-are_alike+then-other}
+use Rattle.batches.proofs.reading.Batch.judge.Goals as goal
+use Rattle.batches.proofs.reading.Batch.judge.Goals.{then-not-is_within-via-then-not-is_within, then-not-is_within-via-else-not-is_within+then-not-are_noded, then-not-are_alike-via-then-not-are_alike, then-not-are_alike-via-else-not-are_alike+then-other}
 
 pub returns-then-not-are_helps : goal.returns-then-not-are_helps
 returns-then-not-are_helps c = at-kind _ _ _ _ _ (cc)

@@ -1,9 +1,9 @@
--- `columns::Batch::column` meets its contract: each place has the byte of its record.
+-- `reading::Batch::column` meets its contract: each place has the byte of its record.
 -- Assumes nothing.
 use Rattle.std.proofs.Common.{◌≡◌, ◌<◌, length, length-set, get_or-set_other, get_or-set_same, below_more, arith}
 use Rattle.codes.proofs.Sizes.{d-high}
 use Rattle.batches.proofs.Fields.{listed}
-use Rattle.batches.proofs.columns.Batch.column.Goals as goal
+use Rattle.batches.proofs.reading.Batch.column.Goals as goal
 
 pub loop-r-preserved : goal.loop-r-preserved
 loop-r-preserved c =

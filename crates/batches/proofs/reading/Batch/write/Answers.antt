@@ -1,4 +1,4 @@
--- `columns::Batch::write` meets its contract: the plan is applied to the symbols' column, and its record put.
+-- `reading::Batch::write` meets its contract: the plan is applied to the symbols' column, and its record put.
 -- Assumes nothing.
 use Rattle.std.proofs.Common.{◌∙◌, ◌≤◌, ◌<◌, ℕ, get_or, rules, sym, ap, ap₂, List, replicate, arith}
 use lib.ListN.{length-replicate}
@@ -9,7 +9,7 @@ use Rattle.shares.specs.Fields.{stripe_record}
 use Rattle.batches.specs.Batch.{symbol_in}
 use Rattle.batches.proofs.Fields.{list_at}
 use Rattle.batches.proofs.Records.{record_is, share_back, take-zeros}
-use Rattle.batches.proofs.columns.Batch.write.Goals as goal
+use Rattle.batches.proofs.reading.Batch.write.Goals as goal
 
 pub slice_bounds-share-end : goal.slice_bounds-share-end
 slice_bounds-share-end c = let b = c.args.self.now.code in omega (arith, c.alpha-a.ensures, alpha-high b.code b.rules)
