@@ -57,7 +57,7 @@ module _ (p : ℕ × ℕ) (front : List Reason) (run size n full : ℕ) (after :
 
 -- ---- a code with a stripe total
 
-total-numbered : (c : Code) (bad : Bool) → numbered (code_reasons c bad) ≡ true
+pub total-numbered : (c : Code) (bad : Bool) → numbered (code_reasons c bad) ≡ true
 unfolding code_reasons
 total-numbered c bad = refl
 

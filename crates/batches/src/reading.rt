@@ -1,7 +1,8 @@
 // A batch: d records of 10 bytes, and what each of them says.
-ghost use Rattle.std.specs.Prelude.{◌≡◌, ◌*◌, ◌≤◌, ◌<◌, length, take};
+ghost use Rattle.std.specs.Prelude.{◌≡◌, ◌*◌, ◌≤◌, ◌<◌, length, take, eqb};
 ghost use Rattle.rebuilds.specs.Plan.{plan_of};
-ghost use Rattle.batches.specs.Batch.{list_of, field_of, count_at, stripe_named, helpers_in};
+ghost use Rattle.shares.specs.File.{below};
+ghost use Rattle.batches.specs.Batch.{list_of, field_of, helper_in, count_at, stripe_named, helpers_in};
 
 use codes::{Accepted, Node};
 use rebuilds::{Plan, plan};
@@ -70,6 +71,14 @@ impl Batch<'_> {
             column[r] = self.byte(r, at);
         }
         column
+    }
+
+    // Whether each record names the helper that the other batch's record of the same number names.
+    pub fn has_helpers_of(&self, other: &Batch<'_>) -> bool
+        requires { other.now.code.code.d ≡ self.now.code.code.d }
+        ensures { result ≡ below self.now.code.code.d (λ r. eqb (helper_in self.now.bytes.now r) (helper_in other.now.bytes.now r)) }
+    {
+        (0..self.d()).all(|r| self.byte(r, HELPER) == other.byte(r, HELPER))
     }
 
     // The plan of a rebuild of the asked node by the batch's helpers.

@@ -1,8 +1,10 @@
-// The D record that a batch gives, by a plan that was made for its helpers.
-ghost use Rattle.std.specs.Prelude.{◌≡◌, ℕ};
+// The D record that a batch gives by a plan.
+ghost use Rattle.std.specs.Prelude.{◌≡◌, ℕ, replicate};
 ghost use Rattle.records.specs.Writing.{put_at};
-ghost use Rattle.rebuilds.specs.Plan.{plan_of};
-ghost use Rattle.batches.specs.Batch.{helpers_in, rebuilt_record};
+ghost use Rattle.codes.specs.Sizes.{alpha};
+ghost use Rattle.rebuilds.specs.Plan.{plan_of, applied};
+ghost use Rattle.shares.specs.Fields.{stripe_record};
+ghost use Rattle.batches.specs.Batch.{helpers_in, rebuilt_record, stripe_named, symbols_in};
 
 use crate::reading::{Batch, SYMBOL};
 use field::Products;
@@ -11,9 +13,11 @@ use records::writing::put;
 use shares::stripe_record;
 
 impl Batch<'_> {
-    // Puts the D record at a place of the output, by a plan that the batch's helpers give for an asked node.
+    // Puts the D record at a place of the output, by any plan; by one that the batch's helpers give for an asked node it is that node's.
     pub fn write(&self, plan: &Plan, t: &Products, output: &mut [u8], at: usize)
-        ensures { (a : ℕ) → plan.now ≡ plan_of self.now.code.code a (helpers_in self.now.code.code.d self.now.bytes.now)
+        ensures by_plan { output.new ≡ put_at output.old at (stripe_record (stripe_named self.now.bytes.now 0)
+            (applied plan.now t.now.bytes (symbols_in self.now.code.code.d self.now.bytes.now) (replicate (alpha self.now.code.code) 0))) }
+        ensures rebuilt { (a : ℕ) → plan.now ≡ plan_of self.now.code.code a (helpers_in self.now.code.code.d self.now.bytes.now)
             → output.new ≡ put_at output.old at (rebuilt_record self.now.code.code a self.now.bytes.now) }
     {
         let d = self.d();

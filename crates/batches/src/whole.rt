@@ -8,7 +8,7 @@ ghost use Rattle.shares.specs.Fields.{stripe_at};
 ghost use Rattle.batches.specs.Batch.{count_at};
 ghost use Rattle.batches.specs.Whole.{batch_of, faults_from, records_from, whole_reasons, whole_told, whole_leaves};
 
-use crate::reading::{Batch, COUNT, HELPER};
+use crate::reading::{Batch, COUNT};
 use codes::{Accepted, Code, Node, Refusal};
 use field::Products;
 use records::numbers::number4;
@@ -65,16 +65,13 @@ impl Batches<'_> {
         ensures { output.new ≡ put_at output.old 45 (records_from self.now.code.code asked.0 self.now.bytes.now 0 self.now.total) }
     {
         let t = Products::new();
-        let d = usize::from(self.code.code.d);
-        let first = self.of(0);
-        let mut helpers = first.column(HELPER);
-        let mut plan = first.plan(asked);
+        let mut planned = self.of(0);
+        let mut plan = planned.plan(asked);
         for i in 0..self.total {
             let batch = self.of(i);
-            let next = batch.column(HELPER);
-            if next[..d] != helpers[..d] {
+            if !batch.has_helpers_of(&planned) {
                 plan = batch.plan(asked);
-                helpers = next;
+                planned = batch;
             }
             batch.write(&plan, &t, output, stripe_at(i));
         }

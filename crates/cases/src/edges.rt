@@ -24,25 +24,21 @@ fn code(kind: u8, n: u8, k: u8, d: u8) -> Code {
     }
 }
 
-fn show_size(out: &mut Stdout, name: &str, kind: u8, n: u8, k: u8, d: u8) -> fmt::Result {
-    write!(out, "{name} n={n} k={k} d={d}")?;
-    show(out, "", code(kind, n, k, d))
-}
-
 pub fn sizes(out: &mut Stdout) -> fmt::Result {
-    for (n, k, d) in [
-        (32, 31, 31),
-        (33, 31, 31),
-        (32, 31, 32),
-        (2, 1, 1),
-        (1, 1, 1),
-        (4, 0, 3),
-        (4, 4, 3),
+    for (label, code) in [
+        ("MBR n=32 k=31 d=31", code(MBR, 32, 31, 31)),
+        ("MBR n=33 k=31 d=31", code(MBR, 33, 31, 31)),
+        ("MBR n=32 k=31 d=32", code(MBR, 32, 31, 32)),
+        ("MBR n=2 k=1 d=1", code(MBR, 2, 1, 1)),
+        ("MBR n=1 k=1 d=1", code(MBR, 1, 1, 1)),
+        ("MBR n=4 k=0 d=3", code(MBR, 4, 0, 3)),
+        ("MBR n=4 k=4 d=3", code(MBR, 4, 4, 3)),
+        ("MSR n=3 k=1 d=1", code(MSR, 3, 1, 1)),
+        ("MSR n=5 k=3 d=4", code(MSR, 5, 3, 4)),
+        ("MSR n=5 k=3 d=3", code(MSR, 5, 3, 3)),
+        ("MSR n=31 k=16 d=30", code(MSR, 31, 16, 30)),
     ] {
-        show_size(out, "MBR", MBR, n, k, d)?;
-    }
-    for (n, k, d) in [(3, 1, 1), (5, 3, 4), (5, 3, 3), (31, 16, 30)] {
-        show_size(out, "MSR", MSR, n, k, d)?;
+        show(out, label, code)?;
     }
     Ok(())
 }

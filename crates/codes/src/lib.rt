@@ -7,8 +7,6 @@ ghost use Rattle.codes.specs.Sizes.{alpha, bytes, none};
 ghost use Rattle.codes.specs.Judge.{judged, say_judged};
 
 use field::Symbol;
-use std::error::Error;
-use std::fmt;
 
 mod accepted; // accepted.rt: a code that the judge accepted
 mod body; // body.rt: a code read off the body of its C record
@@ -38,7 +36,7 @@ pub struct Code {
 }
 
 // Document 01's refusals, by its names. Points names the first offending pair of places.
-#[derive(Clone, Copy, Debug, PartialEq, Eq)]
+#[derive(Clone, Copy, PartialEq, Eq)]
 pub enum Refusal {
     Record,
     Kind,
@@ -92,19 +90,6 @@ impl Refusal {
         }
     }
 }
-
-// Document 01's number, and of refusal 4 its pair of places too.
-impl fmt::Display for Refusal {
-    fn fmt<W: fmt::Write>(&self, f: &mut fmt::Formatter<W>) -> fmt::Result {
-        let number = self.number();
-        match self {
-            Refusal::Points { first, second } => write!(f, "{number} at {first} and {second}"),
-            _ => write!(f, "{number}"),
-        }
-    }
-}
-
-impl Error for Refusal {}
 
 impl Code {
     // The bytes of a share of one stripe, by the table of document 01; a number for codes that are refused too.

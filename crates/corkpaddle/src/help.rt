@@ -21,6 +21,7 @@ pub fn help_into(
     if output.len() != 1 {
         return Err(Refusal::Length);
     }
-    output[0] = help(code, helper, failed, share)?.0;
+    let symbol = help(code, helper, failed, share)?;
+    output[0] = symbol.0;
     Ok(())
 }

@@ -29,7 +29,7 @@ told-by : (t : Bool) (n : ℕ) (file : List ℕ) (place : ℕ) → ((at : ℕ) �
 told-by true n file place more = more (end_at file place)
 told-by false n file place more = refl
 
-told-nth : (n : ℕ) (file : List ℕ) (place : ℕ) → told (nth_from n file place) ≡ told_from n file place
+pub told-nth : (n : ℕ) (file : List ℕ) (place : ℕ) → told (nth_from n file place) ≡ told_from n file place
 unfolding nth_from told_from
 told-nth zero file place = told-answered file place (whole file place)
 told-nth (suc n) file place = told-by (whole file place) n file place (told-nth n file)

@@ -79,6 +79,8 @@ module _ (c : Code) (f : ℕ) (hs ys ns o : List ℕ) where
     refused-stays = refused-leaves (rebuild_reasons c f hs ys ns o) (pair_in c) r e (rebuilt c f hs ys) o
 
   pub record Passed : Type 0 where
+    pub rules : Rules c
+    pub nodes : length hs ≡ c.d
     pub symbols : length ys ≡ c.d
     pub counts : length ns ≡ c.d
     pub room : length o ≡ alpha c
@@ -87,16 +89,18 @@ module _ (c : Code) (f : ℕ) (hs ys ns o : List ℕ) where
     pub passed : Passed
     unfolding rebuild_reasons
     passed =
-        let g = (ladder-good c (Long c hs ys ns (length o)) (Known c f hs) (Twice f hs) (differ ns) e).1 in
+        let g = ladder-good c (Long c hs ys ns (length o)) (Known c f hs) (Twice f hs) (differ ns) e in
         let t1 = eqb (length hs) c.d in
         let t2 = t1 && eqb (length ys) c.d in
         let t3 = t2 && eqb (length ns) c.d in
-        let e3 : t3 ≡ true = and_left t3 (eqb (length o) (alpha c)) g in
+        let e3 : t3 ≡ true = and_left t3 (eqb (length o) (alpha c)) g.1 in
         let e2 : t2 ≡ true = and_left t2 (eqb (length ns) c.d) e3 in
         record {
+          rules = g.0;
+          nodes = eqb-true (length hs) c.d (and_left t1 (eqb (length ys) c.d) e2);
           symbols = eqb-true (length ys) c.d (and_right t1 (eqb (length ys) c.d) e2);
           counts = eqb-true (length ns) c.d (and_right t2 (eqb (length ns) c.d) e3);
-          room = eqb-true (length o) (alpha c) (and_right t3 (eqb (length o) (alpha c)) g);
+          room = eqb-true (length o) (alpha c) (and_right t3 (eqb (length o) (alpha c)) g.1);
         }
 
     pub done-is : done (get_or ns 0 0) ≡ rebuild_told c f hs ys ns o
@@ -105,9 +109,8 @@ module _ (c : Code) (f : ℕ) (hs ys ns o : List ℕ) where
         done-told (rebuild_reasons c f hs ys ns o) (pair_in c) e (get_or ns 0 0)
         (ladder-numbered c (Long c hs ys ns (length o)) (Known c f hs) (Twice f hs) (differ ns))
 
-    pub done-writes : Rules c → ((t : ℕ) → t < c.d → get_or ys t 0 < 256)
-        → applied (plan_of c f hs) tables ys o ≡ rebuild_leaves c f hs ys ns o
+    pub done-writes : ((t : ℕ) → t < c.d → get_or ys t 0 < 256) → applied (plan_of c f hs) tables ys o ≡ rebuild_leaves c f hs ys ns o
     unfolding rebuild_leaves
-    done-writes R b =
-        plan-rebuilds c f hs ys o (d-high c R) (alpha-high c R) passed.symbols passed.room b
+    done-writes b =
+        plan-rebuilds c f hs ys o (d-high c passed.rules) (alpha-high c passed.rules) passed.symbols passed.room b
         ∙ done-leaves (rebuild_reasons c f hs ys ns o) (pair_in c) e (rebuilt c f hs ys) o

@@ -6,6 +6,7 @@ use codes::{Code, Node};
 use field::Symbol;
 use records::kinds::{CODE, HELP, NODE, STRIPE};
 use records::numbers::{bytes2, bytes4};
+use std::array;
 
 // The C record of a code.
 pub fn code_record(code: Code) -> [u8; 37]
@@ -13,7 +14,8 @@ pub fn code_record(code: Code) -> [u8; 37]
 {
     let mut record = [0; 37];
     record[..5].copy_from_slice(&[CODE, code.kind, code.n, code.k, code.d]);
-    record[5..].copy_from_slice(&code.points.map(|x| x.0));
+    let points: [u8; 32] = array::from_fn(|i| code.points[i].0);
+    record[5..].copy_from_slice(&points);
     record
 }
 

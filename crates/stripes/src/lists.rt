@@ -20,7 +20,7 @@ pub fn all_within(code: Code, nodes: &[u8]) -> bool
 pub fn has(nodes: &[u8], from: usize, v: u8) -> bool
     ensures { result ≡ has v (drop from nodes.now) }
 {
-    nodes.get(from..).is_some_and(|rest| rest.contains(&v))
+    nodes.iter().skip(from).any(|x| *x == v)
 }
 
 pub fn repeats(nodes: &[u8]) -> bool

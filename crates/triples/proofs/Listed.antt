@@ -23,7 +23,7 @@ lent-all : (n : ℕ) → n ≤ 31 → lent_of n ≡ n
 unfolding lent_of
 lent-all n h = simp (le-ltb 31 n h)
 
-lent_none : (n : ℕ) → 31 < n → lent_of n ≡ 0
+pub lent_none : (n : ℕ) → 31 < n → lent_of n ≡ 0
 unfolding lent_of
 lent_none n h = simp (lt-ltb 31 n h)
 

@@ -1,7 +1,7 @@
 // Document 01's whole file, read record by record: for each record its kind, where its body starts and ends, and the next place;
 // then the refusal at the end. After it the same file cut by one byte, and with another kind byte.
 //
-// The program asks for each record by its number. A line that cannot be written is left out, and the program goes on.
+// The program asks for each record by its number. What cannot be written is left out, and the program goes on.
 #![tactic(auto)]
 
 use records::reading::{Found, NoRecord, body};
@@ -10,18 +10,15 @@ use std::fmt;
 use std::fmt::Write;
 use std::ops::Range;
 
-// Standard output, through the kit's `io`.
+// Standard output, through the kit's `io`. A write that fails is passed over, and the next one is tried.
 // Stays: in each program, since a crate more for twelve lines would be no plainer.
 #[derive(Clone, Copy)]
 struct Stdout;
 
 impl fmt::Write for Stdout {
     fn write_str(&mut self, text: &str) -> fmt::Result {
-        if io::write_all(1, text.as_bytes()) {
-            Ok(())
-        } else {
-            Err(fmt::Error)
-        }
+        io::write_all(1, text.as_bytes());
+        Ok(())
     }
 }
 

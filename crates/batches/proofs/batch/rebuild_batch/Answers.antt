@@ -37,6 +37,6 @@ returns-clause-left c =
     let q = c.in_ok-batch.ensures.same in
     let d = rw q.0 at (d-high b.code.code b.code.rules) in
     let a = rw q.0 at (alpha-high b.code.code b.code.rules) in
-    (rw (q.0, q.1) at (c.write.ensures s.asked.0 c.plan.ensures))
+    (rw (q.0, q.1) at (c.write.ensures.rebuilt s.asked.0 c.plan.ensures))
     ∙ put_all s.output.now (rebuilt_record s.code s.asked.0 s.batch.now) (record-length s.code s.asked.0 d a s.batch.now ∙ sym c.in_ok-batch.ensures.room)
     ∙ done-leaves (batch_reasons s.code s.asked.0 s.batch.now s.output.now) (pair_in s.code) c.in_ok-batch.ensures.answer _ s.output.now

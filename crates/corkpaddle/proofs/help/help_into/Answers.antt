@@ -20,17 +20,17 @@ returns-then-output-ne1 c =
     let e = no_room a.code a.helper.0 a.failed.0 a.share.now a.output.now c.in_ok-judge.ensures.answer c.if-output-ne1.true in
     record { answer = e; written = unchanged a.code a.helper.0 a.failed.0 a.share.now a.output.now Length e }
 
-pub returns-in_err-output : goal.returns-in_err-output
-returns-in_err-output c =
+pub returns-in_err-symbol : goal.returns-in_err-symbol
+returns-in_err-symbol c =
     let a = c.args in
-    let e = no-help a.code a.helper.0 a.failed.0 a.share.now a.output.now c.if-output-ne1.false _ c.in_err-output.ensures in
+    let e = no-help a.code a.helper.0 a.failed.0 a.share.now a.output.now c.if-output-ne1.false _ c.in_err-symbol.ensures in
     record {
-      answer = handed-on (λ _. 0) c.from_residual-in_err-output.result _ c.from_residual-in_err-output.ensures.1 e;
+      answer = handed-on (λ _. 0) c.from_residual-in_err-symbol.result _ c.from_residual-in_err-symbol.ensures.1 e;
       written = unchanged a.code a.helper.0 a.failed.0 a.share.now a.output.now _ e;
     }
 
 pub returns : goal.returns
 returns c =
     let a = c.args in
-    let p = helps a.code a.helper.0 a.failed.0 a.share.now a.output.now c.if-output-ne1.false _ c.in_ok-output.ensures in
+    let p = helps a.code a.helper.0 a.failed.0 a.share.now a.output.now c.if-output-ne1.false _ c.in_ok-symbol.ensures in
     record { answer = p.0; written = p.1 }
